@@ -1,11 +1,14 @@
 -- Fields are read back, and what is read is what they spell: once for each way of making a field.
-use Rattle.std.proofs.Common.{◌≡◌, ℕ, zero, suc, ◌+◌, ◌%◌, ◌^◌, ◌<◌, ◌≤◌, Bool, true, false, cond, eqb, ltb, leb, ◌&&◌, List, [], ◌∷◌, ◌++◌, length, take, drop, Option, Some, None, Result, Ok, Err, refl, sym, ap, subst, ◌∙◌, append_assoc, arith, inl, inr}
-use Rattle.std.specs.Int.{Width, w8, w16, w32, byte_len, from_le_bytes, to_le_bytes}
+use Rattle.std.proofs.Common.{◌≡◌, ℕ, zero, suc, ◌+◌, ◌%◌, ◌^◌, ◌<◌, ◌≤◌, Bool, true, false, cond, eqb, ltb, leb, nat_le, ◌&&◌, List, [], ◌∷◌, ◌++◌, length, take, drop, Option, Some, None, Result, Ok, Err, refl, sym, ap, subst, ◌∙◌, append_assoc, arith, inl, inr}
+use Rattle.std.specs.Int.{Width, w8, w16, w32, w64, byte_len, from_le_bytes, to_le_bytes}
 use Rattle.std.proofs.lemmas.Bool.{cases_lt, ltb-true, ltb-false, lt-ltb, le-ltb, leb-true, le-leb, eqb-true, and_parts, and_from}
 use Rattle.std.proofs.lemmas.List.{take_at, drop_at, take-append-drop, length-append, length-take, length-drop, get_or-drop, get_or-take, get_or_past}
-use Rattle.std.proofs.lemmas.Nat.{le_bytes_2, le_bytes_4, from_le_bytes-to_le_bytes_2, from_le_bytes-to_le_bytes_4}
+use Rattle.std.proofs.lemmas.Nat.{le_bytes_2, le_bytes_4, le_bytes_8, from_le_bytes-to_le_bytes_2, from_le_bytes-to_le_bytes_4, from_le_bytes-to_le_bytes_8}
 use Rattle.hac_model.specs.Run.Answers.{◌>>=◌}
-use Rattle.hac_model.specs.Payload.Fields.{Field, number_at, number, run_at, run, nothing, ◌&◌, checked, items_at, items_fit, items_text, list, seen, Part, part, Way, failing_at, way, whole_way, way_at, choice_at, choice}
+use Rattle.hac_model.specs.Payload.Fields.{Field, count, num, number_at, number, run_at, run, nothing, ◌&◌, checked, items_at, items_fit, items_text, list, seen, Part, part, Way, failing_at, way, whole_way, way_at, choice_at, choice}
+use Rattle.hac_model.specs.declared.limits.TheConstants.{NUMBERS_LIMIT}
+use Rattle.hac_model.specs.declared.versions.Version.{Version}
+use Rattle.hac_model.specs.declared.versions.Version.TheVariants.{One, Two}
 use Rattle.event_codec.specs.Laws.{AreBytes}
 
 AreBytes-drop : (n : ℕ) (bytes : List ℕ) → AreBytes bytes → AreBytes (drop n bytes)
@@ -92,6 +95,14 @@ wide32 = record {
   below = λ bytes fits. omega (arith, fits 0, fits 1, fits 2, fits 3);
 }
 
+wide64 : IsWide w64
+wide64 = record {
+  len = λ n. refl;
+  back = λ bytes len fits. le_bytes_8 bytes _ len fits refl;
+  again = λ n lt. from_le_bytes-to_le_bytes_8 n lt;
+  below = λ bytes fits. omega (arith, fits 0, fits 1, fits 2, fits 3, fits 4, fits 5, fits 6, fits 7);
+}
+
 -- the number at the front
 front_is : (w : Width) (wide : IsWide w) (bytes : List ℕ) → AreBytes bytes → byte_len w ≤ length bytes → to_le_bytes w (from_le_bytes w (take (byte_len w) bytes)) ≡ take (byte_len w) bytes
 front_is w wide bytes fits long = wide.back (take (byte_len w) bytes) (omega (arith, length-take (byte_len w) bytes)) (AreBytes-take (byte_len w) bytes fits)
@@ -119,6 +130,9 @@ number_again w wide n rest lt =
 
 pub number_lawful : (w : Width) → IsWide w → Lawful (number w)
 number_lawful w wide = record { takes = number_takes w wide; again = number_again w wide }
+
+pub count_lawful : Lawful count
+count_lawful = number_lawful w32 wide32
 
 run_takes : (w : Width) (wide : IsWide w) (most : ℕ) (test : List ℕ → Bool) (bytes : List ℕ) (x : List ℕ × List ℕ) → AreBytes bytes → run_at w most test bytes ≡ Ok x → Took (run w most test) bytes x
 unfolding run_at
@@ -201,6 +215,10 @@ checked_again f test p x rest fits =
 
 pub checked_lawful : {A : Type 0} (f : Field A) (test : A → Bool) → Lawful f → Lawful (checked f test)
 checked_lawful f test p = record { takes = checked_takes f test p; again = checked_again f test p }
+
+pub num_lawful : (version : Version) → Lawful (num version)
+num_lawful One = number_lawful w32 wide32
+num_lawful Two = checked_lawful (number w64) (λ n. nat_le n NUMBERS_LIMIT) (number_lawful w64 wide64)
 
 -- what is read and made anew is seen as it was
 pub seen_lawful : {A B : Type 0} (taken : B → A) (made : A → B) (f : Field A) → Lawful f → ((x : B) → made (taken x) ≡ x) → ((x : A) → taken (made x) ≡ x) → Lawful (seen taken made f)

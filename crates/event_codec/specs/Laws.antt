@@ -4,20 +4,21 @@ use Rattle.hac_model.specs.Payload.Payloads.{event_text, is_spellable, spelled}
 use Rattle.hac_model.specs.Payload.States.{is_spellable_snapshot, snapshot_text, spelled_snapshot}
 use Rattle.hac_model.specs.declared.events.Event.{Event}
 use Rattle.hac_model.specs.declared.snapshots.Snapshot.{Snapshot}
+use Rattle.hac_model.specs.declared.versions.Version.{Version}
 
 -- the numbers are bytes
 abbrev pub AreBytes : List ℕ → Type 0
 AreBytes bytes = (i : ℕ) → slice_index bytes i < 256
 
--- what is written is read back
+-- what is written is read back, in each version
 abbrev pub WrittenIsRead : Type 0
-WrittenIsRead = (event : Event) → IsTrue (is_spellable event) → spelled (event_text event) ≡ Ok event
+WrittenIsRead = (version : Version) (event : Event) → IsTrue (is_spellable version event) → spelled version (event_text version event) ≡ Ok event
 
 -- what is read is an event that has a spelling, and the bytes are that spelling
 abbrev pub ReadIsWritten : Type 0
-ReadIsWritten = (bytes : List ℕ) (event : Event) → AreBytes bytes → spelled bytes ≡ Ok event → IsTrue (is_spellable event) × (bytes ≡ event_text event)
+ReadIsWritten = (version : Version) (bytes : List ℕ) (event : Event) → AreBytes bytes → spelled version bytes ≡ Ok event → IsTrue (is_spellable version event) × (bytes ≡ event_text version event)
 
--- so is a snapshot that is written
+-- so is a snapshot that is written, its version too
 abbrev pub SnapshotIsRead : Type 0
 SnapshotIsRead = (s : Snapshot) → IsTrue (is_spellable_snapshot s) → spelled_snapshot (snapshot_text s) ≡ Ok s
 

@@ -1,16 +1,13 @@
 -- What calls answer that read a part of a payload.
-use Rattle.std.specs.Prelude.{◌≡◌, ⊤, ℕ, ◌+◌, ◌&&◌, if◌then◌else◌, nat_le, List, length, take, drop, Option, None, Some, Result, Ok, Err, IsTrue}
+use Rattle.std.specs.Prelude.{◌≡◌, ⊤, ℕ, ◌+◌, ◌&&◌, if◌then◌else◌, nat_le, List, length, take, drop, Option, None, Some, Result, Err}
 use Rattle.std.specs.Int.{Width, byte_len, from_le_bytes}
 use Rattle.hac_model.specs.Run.Answers as gives
-use Rattle.hac_model.specs.Payload.Payloads.{is_spellable}
 use Rattle.hac_model.specs.declared.events.Event.{Event}
 use Rattle.hac_model.specs.declared.snapshots.Snapshot.{Snapshot}
 use Rattle.event_codec.specs.declared.faults.Fault.{Fault}
 use Rattle.event_codec.specs.declared.faults.Fault.TheVariants as fault
 use Rattle.event_codec.specs.declared.faults.CodecFault.{CodecFault}
 use Rattle.event_codec.specs.declared.faults.CodecFault.TheVariants as codec
-use Rattle.event_codec.specs.declared.reading.Payload.{Payload}
-use Rattle.event_codec.specs.declared.reading.Payload.TheVariants as payload
 
 -- the fault is for what is read; memory may run out in place of anything
 abbrev pub Fails : {A : Type 0} → Fault → Result A ℕ → Type 0
@@ -30,18 +27,13 @@ abbrev pub IsPayloadFault : {A : Type 0} → CodecFault → Result A ℕ → Typ
 IsPayloadFault codec.Memory wanted = ⊤
 IsPayloadFault (codec.Bad at) wanted = wanted ≡ Err at
 
--- the call gave what the payload says, the event or the place of the fault
-abbrev pub ReadsPayload : Result Payload CodecFault → Result Event ℕ → Type 0
-ReadsPayload (Ok (payload.Event event)) wanted = wanted ≡ Ok event
-ReadsPayload (Err fault) wanted = IsPayloadFault fault wanted
+-- the call gave the event that the payload says, or the place of the fault
+abbrev pub ReadsEvent : Result Event CodecFault → Result Event ℕ → Type 0
+ReadsEvent result wanted = gives.Gives IsPayloadFault result wanted
 
 -- the call gave the snapshot that the payload says, or the place of the fault
 abbrev pub ReadsSnapshot : Result Snapshot CodecFault → Result Snapshot ℕ → Type 0
 ReadsSnapshot result wanted = gives.Gives IsPayloadFault result wanted
-
--- what the payload holds has a spelling
-abbrev pub IsSpellable : Payload → Type 0
-IsSpellable (payload.Event event) = IsTrue (is_spellable event)
 
 -- the bytes behind their own number, if all are there and they are at most this many
 abbrev pub run_in : Width → ℕ → List ℕ → Option (List ℕ)

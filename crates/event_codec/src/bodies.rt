@@ -5,6 +5,7 @@ ghost use Rattle.std.specs.Str.{bytes_eq};
 ghost use Rattle.hac_model.specs.Payload.Fields.{way_at};
 ghost use Rattle.hac_model.specs.Payload.States.{flag_field, other_text, shown_field};
 ghost use Rattle.hac_model.specs.Payload.States.{stored_field, stored_ways};
+ghost use Rattle.hac_model.specs.declared.versions.Version.{Version};
 ghost use Rattle.event_codec.specs.Reading.{GivesField};
 
 use crate::bytes::Bytes;
@@ -13,31 +14,40 @@ use crate::fields::{space, target, text};
 use crate::lists::{list, put_list, short_list};
 use crate::putting::{put_long, put_middle, put_query, put_short};
 use crate::queries::query;
-use hac_model::{Body, Document, Memory, Seq, Text};
+use hac_model::{Body, Document, Memory, Seq, Text, Version};
 use std::alloc::Global;
 
 /// What the entry at the front is, and the documents that are listed with it.
 #[tactic(auto, unfolding(hac_model::specs::Payload::Fields::choice_at))]
-pub(crate) fn stored(alloc: Global, bytes: &mut Bytes) -> Result<(Body, Seq<Document>), Fault>
-    ensures { GivesField result bytes.new (stored_field.read bytes.old) }
+pub(crate) fn stored(
+    alloc: Global,
+    version: Version,
+    bytes: &mut Bytes,
+) -> Result<(Body, Seq<Document>), Fault>
+    ensures { GivesField result bytes.new ((stored_field version).read bytes.old) }
 {
     match bytes.byte() {
-        Some(kind) => stored_of(alloc, kind, bytes),
+        Some(kind) => stored_of(alloc, version, kind, bytes),
         None => Err(Fault::Bad { left: 0 }),
     }
 }
 
 /// The same of a kind, behind its kind byte.
 #[tactic(auto, unfolding(hac_model::specs::Payload::Fields::way_at))]
-fn stored_of(alloc: Global, kind: u8, bytes: &mut Bytes) -> Result<(Body, Seq<Document>), Fault>
-    ensures { GivesField result bytes.new (way_at stored_ways kind bytes.old) }
+fn stored_of(
+    alloc: Global,
+    version: Version,
+    kind: u8,
+    bytes: &mut Bytes,
+) -> Result<(Body, Seq<Document>), Fault>
+    ensures { GivesField result bytes.new (way_at (stored_ways version) kind bytes.old) }
 {
     match kind {
         1 => file(alloc, bytes),
         2 => Ok((Body::Dir, Seq::new(Vec::new(alloc)))),
         3 => symlink(alloc, bytes),
-        4 => semantic(alloc, bytes),
-        5 => mount(alloc, bytes),
+        4 => semantic(alloc, version, bytes),
+        5 => mount(alloc, version, bytes),
         _ => Err(Fault::Bad {
             left: bytes.left() + 1,
         }),
@@ -47,7 +57,8 @@ fn stored_of(alloc: Global, kind: u8, bytes: &mut Bytes) -> Result<(Body, Seq<Do
 /// A file, behind its kind byte. It has no documents, as nothing but a mount has any.
 #[tactic(auto, unfolding(hac_model::specs::Payload::Fields::way_at))]
 fn file(alloc: Global, bytes: &mut Bytes) -> Result<(Body, Seq<Document>), Fault>
-    ensures { GivesField result bytes.new (way_at stored_ways 1 bytes.old) }
+    ensures { (version : Version) → GivesField result bytes.new
+        (way_at (stored_ways version) 1 bytes.old) }
 {
     let dirty = flag(bytes)?;
     let text = text(alloc, bytes)?;
@@ -58,7 +69,8 @@ fn file(alloc: Global, bytes: &mut Bytes) -> Result<(Body, Seq<Document>), Fault
 /// A symbolic link, behind its kind byte.
 #[tactic(auto, unfolding(hac_model::specs::Payload::Fields::way_at))]
 fn symlink(alloc: Global, bytes: &mut Bytes) -> Result<(Body, Seq<Document>), Fault>
-    ensures { GivesField result bytes.new (way_at stored_ways 3 bytes.old) }
+    ensures { (version : Version) → GivesField result bytes.new
+        (way_at (stored_ways version) 3 bytes.old) }
 {
     let target = target(alloc, bytes)?;
     Ok((Body::Symlink { target }, Seq::new(Vec::new(alloc))))
@@ -66,25 +78,29 @@ fn symlink(alloc: Global, bytes: &mut Bytes) -> Result<(Body, Seq<Document>), Fa
 
 /// A semantic directory, behind its kind byte.
 #[tactic(auto, unfolding(hac_model::specs::Payload::Fields::way_at))]
-fn semantic(alloc: Global, bytes: &mut Bytes) -> Result<(Body, Seq<Document>), Fault>
-    ensures { GivesField result bytes.new (way_at stored_ways 4 bytes.old) }
+fn semantic(
+    alloc: Global,
+    version: Version,
+    bytes: &mut Bytes,
+) -> Result<(Body, Seq<Document>), Fault>
+    ensures { GivesField result bytes.new (way_at (stored_ways version) 4 bytes.old) }
 {
     let body = Body::Semantic {
-        query: query(alloc, bytes)?,
-        permanent: list(alloc, bytes)?,
-        prohibited: list(alloc, bytes)?,
+        query: query(alloc, version, bytes)?,
+        permanent: list(alloc, version, bytes)?,
+        prohibited: list(alloc, version, bytes)?,
     };
     Ok((body, Seq::new(Vec::new(alloc))))
 }
 
 /// A mount and its documents, behind its kind byte. What the space answered follows these.
 #[tactic(auto, unfolding(hac_model::specs::Payload::Fields::way_at))]
-fn mount(alloc: Global, bytes: &mut Bytes) -> Result<(Body, Seq<Document>), Fault>
-    ensures { GivesField result bytes.new (way_at stored_ways 5 bytes.old) }
+fn mount(alloc: Global, version: Version, bytes: &mut Bytes) -> Result<(Body, Seq<Document>), Fault>
+    ensures { GivesField result bytes.new (way_at (stored_ways version) 5 bytes.old) }
 {
     let space = space(alloc, bytes)?;
-    let documents = short_list(alloc, bytes)?;
-    let answers = list(alloc, bytes)?;
+    let documents = short_list(alloc, version, bytes)?;
+    let answers = list(alloc, version, bytes)?;
     Ok((Body::Mount { space, answers }, documents))
 }
 
@@ -137,12 +153,13 @@ fn is_same(text: &Text, other: &Text) -> bool
 #[tactic(auto, using(crate::proofs::PutLemmas::puts))]
 pub(crate) fn put_stored(
     out: &mut Vec<u8>,
+    version: Version,
     body: &Body,
     documents: &Seq<Document>,
 ) -> Result<(), Memory>
-    requires { IsTrue (stored_field.fits (body.now, documents.now)) }
+    requires { IsTrue ((stored_field version).fits (body.now, documents.now)) }
     ensures { OnOk result (out.new.items ≡ out.old.items ++
-        stored_field.text (body.now, documents.now)) }
+        (stored_field version).text (body.now, documents.now)) }
 {
     match body {
         Body::File { text, dirty, shown } => {
@@ -165,15 +182,15 @@ pub(crate) fn put_stored(
             prohibited,
         } => {
             out.push(4)?;
-            put_query(out, query)?;
-            put_list(out, permanent.as_slice())?;
-            put_list(out, prohibited.as_slice())
+            put_query(out, version, query)?;
+            put_list(out, version, permanent.as_slice())?;
+            put_list(out, version, prohibited.as_slice())
         }
         Body::Mount { space, answers } => {
             out.push(5)?;
             put_short(out, space.as_bytes())?;
-            put_list(out, documents.as_slice())?;
-            put_list(out, answers.as_slice())
+            put_list(out, version, documents.as_slice())?;
+            put_list(out, version, answers.as_slice())
         }
         Body::Document => Ok(()),
     }

@@ -3,7 +3,8 @@ ghost use Rattle.std.specs.Prelude.{◌≡◌, ◌≤◌, ◌+◌, ◌&&◌, if�
 ghost use Rattle.std.specs.Prelude.{Some, None};
 ghost use Rattle.std.specs.Int.{w8, w16, w32};
 ghost use Rattle.std.specs.Option.{option_copied};
-ghost use Rattle.hac_model.specs.Payload.Fields.{num};
+ghost use Rattle.hac_model.specs.Payload.Fields.{count, num};
+ghost use Rattle.hac_model.specs.declared.versions.Version.TheVariants.{Two};
 ghost use Rattle.hac_model.specs.Payload.Payloads.{name_field, space_field, target_field};
 ghost use Rattle.hac_model.specs.Payload.Payloads.{text_field};
 ghost use Rattle.hac_model.specs.Payload.QueryFields.{word_field};
@@ -13,7 +14,9 @@ ghost use Rattle.event_codec.specs.Reading.{GivesField, run_in};
 use crate::bytes::Bytes;
 use crate::faults::Fault;
 use byteorder::{ByteOrder, LittleEndian};
-use hac_model::{NAME_LIMIT, Name, Number, QUERY_LIMIT, TARGET_LIMIT, TEXT_LIMIT, Text};
+use hac_model::{
+    NAME_LIMIT, NUMBERS_LIMIT, Name, Number, QUERY_LIMIT, TARGET_LIMIT, TEXT_LIMIT, Text, Version,
+};
 use hac_names::{has_long_part, is_bad, is_name, is_space_name};
 use hac_words::is_word;
 use std::alloc::Global;
@@ -21,17 +24,43 @@ use std::alloc::Global;
 /// The most bytes of the name of a space.
 pub(crate) const SPACE_LIMIT: usize = 32;
 
-/// The number at the front.
+/// How many there are of something: a number of four bytes in each version.
 #[tactic(auto, unfolding(hac_model::specs::Payload::Fields::number_at))]
-pub(crate) fn num(bytes: &mut Bytes) -> Result<Number, Fault>
-    ensures { GivesField result bytes.new (num.read bytes.old) }
+pub(crate) fn count(bytes: &mut Bytes) -> Result<u64, Fault>
+    ensures { GivesField result bytes.new (count.read bytes.old) }
 {
     if bytes.left() < 4 {
         return Err(bytes.bad());
     }
     let number = LittleEndian::read_u32(&bytes.rest()[..4]);
     bytes.skip(4);
-    Ok(Number::new(u64::from(number)))
+    Ok(u64::from(number))
+}
+
+/// The number of an entry at the front: four bytes in version One, and eight in version Two.
+pub(crate) fn num(version: Version, bytes: &mut Bytes) -> Result<Number, Fault>
+    ensures { GivesField result bytes.new ((num version).read bytes.old) }
+{
+    match version {
+        Version::One => Ok(Number::new(count(bytes)?)),
+        Version::Two => Ok(Number::new(long_number(bytes)?)),
+    }
+}
+
+/// A number of eight bytes. One that no entry may have fails at its first byte.
+#[tactic(auto, unfolding(hac_model::specs::Payload::Fields::number_at))]
+fn long_number(bytes: &mut Bytes) -> Result<u64, Fault>
+    ensures { GivesField result bytes.new ((num Two).read bytes.old) }
+{
+    if bytes.left() < 8 {
+        return Err(bytes.bad());
+    }
+    let number = LittleEndian::read_u64(&bytes.rest()[..8]);
+    if number > NUMBERS_LIMIT {
+        return Err(bytes.bad());
+    }
+    bytes.skip(8);
+    Ok(number)
 }
 
 /// The name of an entry.

@@ -12,7 +12,7 @@ use crate::fields::num;
 use crate::lists::{Item, list, put_list};
 use crate::putting::{put_middle, put_num, put_short};
 use crate::queries::whole_word;
-use hac_model::{Answer, Document, Memory, Name, Term};
+use hac_model::{Answer, Document, Memory, Name, Term, Version};
 use std::alloc::Global;
 
 /// The names of documents rise.
@@ -21,16 +21,21 @@ impl Item for Document {
 
     ghost item = { document_field };
 
-    fn read(alloc: Global, bytes: &mut Bytes, last: Option<&Document>) -> Result<Document, Fault> {
+    fn read(
+        alloc: Global,
+        version: Version,
+        bytes: &mut Bytes,
+        last: Option<&Document>,
+    ) -> Result<Document, Fault> {
         Ok(Document {
-            number: num(bytes)?,
-            name: Name::read(alloc, bytes, name_of(last))?,
+            number: num(version, bytes)?,
+            name: Name::read(alloc, version, bytes, name_of(last))?,
         })
     }
 
     #[tactic(auto, using(crate::proofs::PutLemmas::puts))]
-    fn put(&self, out: &mut Vec<u8>) -> Result<(), Memory> {
-        put_num(out, self.number.get())?;
+    fn put(&self, out: &mut Vec<u8>, version: Version) -> Result<(), Memory> {
+        put_num(out, version, self.number)?;
         put_short(out, self.name.as_bytes())
     }
 }
@@ -52,9 +57,14 @@ impl Item for Term {
     ghost use Rattle.hac_model.specs.Payload.States.{term_field};
     ghost use Rattle.hac_model.specs.Query.Terms.{is_term_before};
 
-    ghost item = { λ last. checked term_field (rises is_term_before last) };
+    ghost item = { λ version last. checked term_field (rises is_term_before last) };
 
-    fn read(alloc: Global, bytes: &mut Bytes, last: Option<&Term>) -> Result<Term, Fault> {
+    fn read(
+        alloc: Global,
+        _version: Version,
+        bytes: &mut Bytes,
+        last: Option<&Term>,
+    ) -> Result<Term, Fault> {
         let bad = bytes.bad();
         let term = term(alloc, bytes)?;
         match last {
@@ -63,7 +73,7 @@ impl Item for Term {
         }
     }
 
-    fn put(&self, out: &mut Vec<u8>) -> Result<(), Memory> {
+    fn put(&self, out: &mut Vec<u8>, _version: Version) -> Result<(), Memory> {
         put_term(out, self)
     }
 }
@@ -105,17 +115,22 @@ impl Item for Answer {
 
     ghost item = { answer_field };
 
-    fn read(alloc: Global, bytes: &mut Bytes, last: Option<&Answer>) -> Result<Answer, Fault> {
+    fn read(
+        alloc: Global,
+        version: Version,
+        bytes: &mut Bytes,
+        last: Option<&Answer>,
+    ) -> Result<Answer, Fault> {
         Ok(Answer {
-            term: Term::read(alloc, bytes, term_of(last))?,
-            documents: list(alloc, bytes)?,
+            term: Term::read(alloc, version, bytes, term_of(last))?,
+            documents: list(alloc, version, bytes)?,
         })
     }
 
     #[tactic(auto, using(crate::proofs::PutLemmas::puts))]
-    fn put(&self, out: &mut Vec<u8>) -> Result<(), Memory> {
+    fn put(&self, out: &mut Vec<u8>, version: Version) -> Result<(), Memory> {
         put_term(out, &self.term)?;
-        put_list(out, self.documents.as_slice())
+        put_list(out, version, self.documents.as_slice())
     }
 }
 

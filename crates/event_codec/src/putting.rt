@@ -1,23 +1,46 @@
 //! The fields of events as bytes, each added to those before it.
 ghost use Rattle.std.specs.Prelude.{◌≡◌, ◌++◌, ◌∷◌, ◌<◌, ◌≤◌, ◌^◌, [], IsTrue, OnOk, length};
-ghost use Rattle.std.specs.Int.{w8, w16, w32, to_le_bytes};
-ghost use Rattle.hac_model.specs.Payload.Fields.{num};
+ghost use Rattle.std.specs.Int.{w8, w16, w32, w64, to_le_bytes};
+ghost use Rattle.hac_model.specs.Payload.Fields.{count, num};
 ghost use Rattle.hac_model.specs.Payload.Payloads.{mark_field, name_field};
 ghost use Rattle.hac_model.specs.Query.Queries.{are_terms, letter_count};
 ghost use Rattle.hac_model.specs.Payload.QueryFields.{are_nums, query_bytes, token_field};
-ghost use Rattle.hac_model.specs.declared.limits.TheConstants.{QUERY_LIMIT};
 ghost use Rattle.hac_model.specs.Payload.QueryFields as token;
+ghost use Rattle.hac_model.specs.Payload.States.{term_field};
+ghost use Rattle.hac_model.specs.declared.limits.TheConstants.{QUERY_LIMIT};
+ghost use Rattle.hac_model.specs.declared.versions.Version.{Version};
 
 use byteorder::{ByteOrder, LittleEndian};
-use hac_model::{Kind, Memory, Name, Node, Number, Query, Term};
+use hac_model::{Kind, Memory, Name, Node, Number, Query, Term, Version};
 
-/// Adds a number.
-pub(crate) fn put_num(out: &mut Vec<u8>, number: u64) -> Result<(), Memory>
-    requires { IsTrue (num.fits number) }
-    ensures { OnOk result (out.new.items ≡ out.old.items ++ num.text number) }
+/// Adds how many there are of something: four bytes in each version.
+pub(crate) fn put_count(out: &mut Vec<u8>, number: u64) -> Result<(), Memory>
+    requires { IsTrue (count.fits number) }
+    ensures { OnOk result (out.new.items ≡ out.old.items ++ count.text number) }
 {
     let mut bytes = [0; 4];
     LittleEndian::write_u32(&mut bytes, number as u32);
+    out.extend_from_slice(&bytes)?;
+    Ok(())
+}
+
+/// Adds the number of an entry: four bytes in version One, and eight in version Two.
+pub(crate) fn put_num(out: &mut Vec<u8>, version: Version, number: Number) -> Result<(), Memory>
+    requires { IsTrue ((num version).fits number) }
+    ensures { OnOk result (out.new.items ≡ out.old.items ++ (num version).text number) }
+{
+    match version {
+        Version::One => put_count(out, number.get()),
+        Version::Two => put_long_number(out, number.get()),
+    }
+}
+
+/// Adds a number of eight bytes.
+fn put_long_number(out: &mut Vec<u8>, number: u64) -> Result<(), Memory>
+    ensures { OnOk result (out.new.items ≡ out.old.items ++ to_le_bytes w64 number) }
+{
+    let mut bytes = [0; 8];
+    LittleEndian::write_u64(&mut bytes, number);
     out.extend_from_slice(&bytes)?;
     Ok(())
 }
@@ -55,30 +78,41 @@ pub(crate) fn put_long(out: &mut Vec<u8>, run: &[u8]) -> Result<(), Memory>
     ensures { OnOk result (out.new.items ≡ out.old.items ++
         (to_le_bytes w32 (length run.now) ++ run.now)) }
 {
-    put_num(out, run.len() as u64)?;
+    put_count(out, run.len() as u64)?;
     out.extend_from_slice(run)?;
     Ok(())
 }
 
-/// Adds a kind and a number.
+/// Adds a kind and the number of an entry.
 #[tactic(auto, using(crate::proofs::PutLemmas::puts))]
-pub(crate) fn put_numbered(out: &mut Vec<u8>, kind: u8, number: Number) -> Result<(), Memory>
-    requires { IsTrue (num.fits number) }
-    ensures { OnOk result (out.new.items ≡ out.old.items ++ kind ∷ num.text number) }
+pub(crate) fn put_numbered(
+    out: &mut Vec<u8>,
+    version: Version,
+    kind: u8,
+    number: Number,
+) -> Result<(), Memory>
+    requires { IsTrue ((num version).fits number) }
+    ensures { OnOk result (out.new.items ≡ out.old.items ++ kind ∷ (num version).text number) }
 {
     out.push(kind)?;
-    put_num(out, number.get())
+    put_num(out, version, number)
 }
 
 /// Adds a kind, the number of a directory and a name in it.
 #[tactic(auto, using(crate::proofs::PutLemmas::puts))]
-pub(crate) fn put_named(out: &mut Vec<u8>, kind: u8, dir: Number, name: &Name) -> Result<(), Memory>
-    requires dir { IsTrue (num.fits dir) }
+pub(crate) fn put_named(
+    out: &mut Vec<u8>,
+    version: Version,
+    kind: u8,
+    dir: Number,
+    name: &Name,
+) -> Result<(), Memory>
+    requires dir { IsTrue ((num version).fits dir) }
     requires name { IsTrue (name_field.fits name.now) }
     ensures { OnOk result (out.new.items ≡ out.old.items ++ kind ∷
-        (num.text dir ++ name_field.text name.now)) }
+        ((num version).text dir ++ name_field.text name.now)) }
 {
-    put_numbered(out, kind, dir)?;
+    put_numbered(out, version, kind, dir)?;
     put_short(out, name.as_bytes())
 }
 
@@ -97,28 +131,32 @@ pub(crate) fn put_mark(out: &mut Vec<u8>, kind: Kind) -> Result<(), Memory>
 
 /// Adds a query: each `NOT`, `AND` and `OR` before what it joins.
 #[tactic(auto, using(crate::proofs::PutLemmas::puts))]
-pub(crate) fn put_query(out: &mut Vec<u8>, query: &Query<Number>) -> Result<(), Memory>
+pub(crate) fn put_query(
+    out: &mut Vec<u8>,
+    version: Version,
+    query: &Query<Number>,
+) -> Result<(), Memory>
     requires terms { IsTrue (are_terms query.now) }
     requires letters { letter_count query.now ≤ QUERY_LIMIT }
-    requires numbers { IsTrue (are_nums query.now) }
-    ensures { OnOk result (out.new.items ≡ out.old.items ++ query_bytes query.now) }
+    requires numbers { IsTrue (are_nums version query.now) }
+    ensures { OnOk result (out.new.items ≡ out.old.items ++ query_bytes version query.now) }
 {
     match &query.node {
         Node::Term(term) => put_term(out, term),
-        Node::Dir(dir) => put_numbered(out, 3, *dir),
+        Node::Dir(dir) => put_numbered(out, version, 3, *dir),
         Node::Not(query) => {
             out.push(4)?;
-            put_query(out, query)
+            put_query(out, version, query)
         }
         Node::And(left, right) => {
             out.push(5)?;
-            put_query(out, left)?;
-            put_query(out, right)
+            put_query(out, version, left)?;
+            put_query(out, version, right)
         }
         Node::Or(left, right) => {
             out.push(6)?;
-            put_query(out, left)?;
-            put_query(out, right)
+            put_query(out, version, left)?;
+            put_query(out, version, right)
         }
     }
 }
@@ -126,9 +164,9 @@ pub(crate) fn put_query(out: &mut Vec<u8>, query: &Query<Number>) -> Result<(), 
 /// Adds a term.
 #[tactic(auto, using(crate::proofs::PutLemmas::puts))]
 fn put_term(out: &mut Vec<u8>, term: &Term) -> Result<(), Memory>
-    requires { IsTrue (token_field.fits (token.Term term.now)) }
-    ensures { OnOk result (out.new.items ≡ out.old.items ++
-        token_field.text (token.Term term.now)) }
+    requires { IsTrue (term_field.fits term.now) }
+    ensures { OnOk result ((version : Version) → out.new.items ≡ out.old.items ++
+        (token_field version).text (token.Term term.now)) }
 {
     match term {
         Term::Word(_) => out.push(1)?,

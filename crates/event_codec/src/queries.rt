@@ -12,7 +12,7 @@ use crate::bytes::Bytes;
 use crate::faults::Fault;
 use crate::fields::{num, word};
 use crate::rooms::Room;
-use hac_model::{Memory, Name, Node, Number, Pile, Query, Term};
+use hac_model::{Memory, Name, Node, Number, Pile, Query, Term, Version};
 use std::alloc::Global;
 
 /// A part of a query without what it joins.
@@ -32,10 +32,14 @@ pub(crate) enum Token {
 
 /// A query.
 #[tactic(auto, unfolding(hac_model::specs::Payload::QueryFields::query_read))]
-pub(crate) fn query(alloc: Global, bytes: &mut Bytes) -> Result<Query<Number>, Fault>
-    ensures { GivesField result bytes.new (query_field.read bytes.old) }
+pub(crate) fn query(
+    alloc: Global,
+    version: Version,
+    bytes: &mut Bytes,
+) -> Result<Query<Number>, Fault>
+    ensures { GivesField result bytes.new ((query_field version).read bytes.old) }
 {
-    let tokens = tokens(alloc, bytes)?;
+    let tokens = tokens(alloc, version, bytes)?;
     let mut pile = build(alloc, tokens)?;
     match pile.pop() {
         Some(query) => Ok(query),
@@ -44,9 +48,10 @@ pub(crate) fn query(alloc: Global, bytes: &mut Bytes) -> Result<Query<Number>, F
 }
 
 /// The parts of a query, as long as one is wanted.
-fn tokens(alloc: Global, bytes: &mut Bytes) -> Result<Vec<Token>, Fault>
+fn tokens(alloc: Global, version: Version, bytes: &mut Bytes) -> Result<Vec<Token>, Fault>
     ensures { GivesSeen (λ tokens. tokens_of tokens.items) result bytes.new
-        (tokens_at (length bytes.old) (NESTING_LIMIT ∷ []) TERMS_LIMIT QUERY_LIMIT bytes.old) }
+        (tokens_at version (length bytes.old) (NESTING_LIMIT ∷ []) TERMS_LIMIT QUERY_LIMIT
+        bytes.old) }
 {
     let mut room = Room::new(alloc)?;
     let mut tokens = Vec::new(alloc);
@@ -55,7 +60,7 @@ fn tokens(alloc: Global, bytes: &mut Bytes) -> Result<Vec<Token>, Fault>
             return Ok(tokens);
         };
         let bad = bytes.bad();
-        let token = next_token(alloc, bytes, room.terms)?;
+        let token = next_token(alloc, version, bytes, room.terms)?;
         if !room.take(nots, &token)? {
             return Err(bad);
         }
@@ -70,8 +75,13 @@ fn tokens(alloc: Global, bytes: &mut Bytes) -> Result<Vec<Token>, Fault>
 
 /// The part at the front, where `terms` terms may still come.
 #[tactic(auto, unfolding(hac_model::specs::Payload::Fields::choice_at, hac_model::specs::Payload::Fields::way_at))]
-fn next_token(alloc: Global, bytes: &mut Bytes, terms: u64) -> Result<Token, Fault>
-    ensures { GivesSeen token_of result bytes.new (token_at terms bytes.old) }
+fn next_token(
+    alloc: Global,
+    version: Version,
+    bytes: &mut Bytes,
+    terms: u64,
+) -> Result<Token, Fault>
+    ensures { GivesSeen token_of result bytes.new (token_at version terms bytes.old) }
 {
     let left = bytes.left();
     let Some(kind) = bytes.byte() else {
@@ -80,7 +90,7 @@ fn next_token(alloc: Global, bytes: &mut Bytes, terms: u64) -> Result<Token, Fau
     match kind {
         1 => Ok(Token::Term(Term::Word(whole_word(alloc, bytes, left)?))),
         2 => Ok(Token::Term(Term::Prefix(whole_word(alloc, bytes, left)?))),
-        3 if terms > 0 => Ok(Token::Dir(num(bytes)?)),
+        3 if terms > 0 => Ok(Token::Dir(num(version, bytes)?)),
         4 => Ok(Token::Not),
         5 => Ok(Token::And),
         6 => Ok(Token::Or),

@@ -3,6 +3,7 @@ ghost use Rattle.std.specs.Prelude.{◌≡◌, ◌++◌, IfOk, IsTrue, OnOk};
 ghost use Rattle.std.specs.Option.{option_copied, option_map};
 ghost use Rattle.hac_model.specs.Payload.States.{is_spellable_snapshot, snapshot_field};
 ghost use Rattle.hac_model.specs.Payload.States.{snapshot_payload, snapshot_text, spelled_snapshot};
+ghost use Rattle.hac_model.specs.Payload.States.{state_kind};
 ghost use Rattle.hac_model.specs.declared.snapshots.StoredEntry.{StoredEntry};
 ghost use Rattle.event_codec.specs.Reading.{GivesField, ReadsSnapshot};
 
@@ -13,24 +14,36 @@ use crate::fields::{name, num};
 use crate::lists::{Item, list, put_list};
 use crate::putting::{put_num, put_short};
 use crate::reading::bad;
-use hac_model::{Entry, Memory, Number, Snapshot, StoredEntry};
+use hac_model::{Entry, Memory, Number, Snapshot, StoredEntry, Version};
 use std::alloc::Global;
 
-/// The payload of what is stored of a state.
+/// The payload of what is stored of a state. Its kind is 2 in version One and 3 in version Two, and
+/// numbers of entries have four bytes in version One and eight in version Two.
 #[tactic(auto, using(crate::proofs::PutLemmas::puts), unfolding(hac_model::specs::Payload::States::snapshot_text, hac_model::specs::Payload::States::is_spellable_snapshot))]
 pub fn write_snapshot(alloc: Global, snapshot: &Snapshot) -> Result<Vec<u8>, Memory>
     requires { IsTrue (is_spellable_snapshot snapshot.now) }
     ensures { IfOk result (λ bytes. bytes.items ≡ snapshot_text snapshot.now) }
 {
     let mut out = Vec::new(alloc);
-    out.push(2)?;
-    put_num(&mut out, snapshot.next.get())?;
-    put_list(&mut out, snapshot.entries.as_slice())?;
+    out.push(state_kind(snapshot.version))?;
+    put_num(&mut out, snapshot.version, snapshot.next)?;
+    put_list(&mut out, snapshot.version, snapshot.entries.as_slice())?;
     Ok(out)
 }
 
-/// The snapshot that a payload says. It need not be one of a state that there can be: numbers and
-/// parents aren't compared with one another, except that the entries rise.
+/// The kind of a payload that holds a state.
+fn state_kind(version: Version) -> u8
+    ensures { result ≡ state_kind version }
+{
+    match version {
+        Version::One => 2,
+        Version::Two => 3,
+    }
+}
+
+/// The snapshot that a payload says, of the version that the payload's kind tells. It need not be one
+/// of a state that there can be: numbers and parents aren't compared with one another, except that
+/// the entries rise.
 #[tactic(auto, unfolding(hac_model::specs::Payload::States::spelled_snapshot))]
 pub fn read_snapshot(alloc: Global, bytes: &[u8]) -> Result<Snapshot, CodecFault>
     ensures snapshot { ReadsSnapshot result (spelled_snapshot bytes.now) }
@@ -57,18 +70,20 @@ fn payload_at(alloc: Global, bytes: &mut Bytes) -> Result<Snapshot, Fault>
 {
     let left = bytes.left();
     match bytes.byte() {
-        Some(2) => snapshot_at(alloc, bytes),
+        Some(2) => snapshot_at(alloc, Version::One, bytes),
+        Some(3) => snapshot_at(alloc, Version::Two, bytes),
         _ => Err(Fault::Bad { left }),
     }
 }
 
-/// The snapshot at the front.
-fn snapshot_at(alloc: Global, bytes: &mut Bytes) -> Result<Snapshot, Fault>
-    ensures { GivesField result bytes.new (snapshot_field.read bytes.old) }
+/// The snapshot of a version at the front.
+fn snapshot_at(alloc: Global, version: Version, bytes: &mut Bytes) -> Result<Snapshot, Fault>
+    ensures { GivesField result bytes.new ((snapshot_field version).read bytes.old) }
 {
     Ok(Snapshot {
-        next: num(bytes)?,
-        entries: list(alloc, bytes)?,
+        version,
+        next: num(version, bytes)?,
+        entries: list(alloc, version, bytes)?,
     })
 }
 
@@ -80,13 +95,14 @@ impl Item for StoredEntry {
 
     fn read(
         alloc: Global,
+        version: Version,
         bytes: &mut Bytes,
         last: Option<&StoredEntry>,
     ) -> Result<StoredEntry, Fault> {
-        let number = Number::read(alloc, bytes, number_of(last))?;
-        let parent = num(bytes)?;
+        let number = Number::read(alloc, version, bytes, number_of(last))?;
+        let parent = num(version, bytes)?;
         let name = name(alloc, bytes)?;
-        let (body, documents) = stored(alloc, bytes)?;
+        let (body, documents) = stored(alloc, version, bytes)?;
         let entry = Entry {
             number,
             parent,
@@ -97,11 +113,11 @@ impl Item for StoredEntry {
     }
 
     #[tactic(auto, using(crate::proofs::PutLemmas::puts))]
-    fn put(&self, out: &mut Vec<u8>) -> Result<(), Memory> {
-        put_num(out, self.entry.number.get())?;
-        put_num(out, self.entry.parent.get())?;
+    fn put(&self, out: &mut Vec<u8>, version: Version) -> Result<(), Memory> {
+        put_num(out, version, self.entry.number)?;
+        put_num(out, version, self.entry.parent)?;
         put_short(out, self.entry.name.as_bytes())?;
-        put_stored(out, &self.entry.body, &self.documents)
+        put_stored(out, version, &self.entry.body, &self.documents)
     }
 }
 

@@ -1,5 +1,6 @@
 //! Payloads whose bytes were written by hand from the table of events.
-use event_codec::{CodecFault, Payload, read_payload, write_event};
+use event_codec::{CodecFault, read_event, write_event};
+use hac_model::Version;
 use std::alloc::Global;
 use std::process::Abort;
 use std::test::Fail;
@@ -66,16 +67,62 @@ fn events_are_read_and_written(rt: HostRuntime) -> Result<(), Fail> {
         (b"\x01\x0f", "Step"),
     ];
     for (bytes, told) in rows {
-        expect_event(&rt, alloc, bytes, told)?;
+        expect_event(&rt, alloc, Version::One, bytes, told)?;
+    }
+    Ok(())
+}
+
+#[test]
+fn events_of_version_two_are_read_and_written(rt: HostRuntime) -> Result<(), Fail> {
+    let alloc = rt.alloc();
+    let rows: [(&[u8], &str); 8] = [
+        (
+            b"\x04\x01\0\0\0\0\0\0\0\0\x01a",
+            "Mkdir { dir: Number(0), name: Name([97]) }",
+        ),
+        (
+            b"\x04\x03\x08\x07\x06\x05\x04\x03\x02\x01\0\0\0\0",
+            "Rewrite { file: Number(72623859790382856), text: Seq([]) }",
+        ),
+        (
+            b"\x04\x05\x01\0\0\0\0\0\0\0\x02\0\0\0\0\0\0\0\x01c",
+            "Mv { entry: Number(1), dir: Number(2), name: Name([99]) }",
+        ),
+        (
+            b"\x04\x06\xff\xff\xff\xff\xff\xff\xff\x3f",
+            "Rm { entry: Number(4611686018427387903) }",
+        ),
+        (
+            b"\x04\x09\x03\0\0\0\0\0\0\0\x04\x03\x07\0\0\0\0\0\0\0\x02\0\0\0\x01\0\0\0\x08\0\0\0\0\0\0\0\0\0\0\0",
+            "Setq { dir: Number(3), query: Query { node: Not(Query { node: Dir(Number(7)) }) }, told: Seq([Seq([Number(8)]), Seq([])]) }",
+        ),
+        (
+            b"\x04\x0b\x03\0\0\0\0\0\0\0\x09\0\0\0\0\0\0\0\x01",
+            "Mark(Mark { dir: Number(3), item: Number(9), kind: Permanent })",
+        ),
+        (
+            b"\x04\x0d\x05\0\0\0\0\0\0\0\x01\0\0\0\x01x\0\0\0\0",
+            "Ssync { mount: Number(5), docs: Seq([Name([120])]), told: Seq([]) }",
+        ),
+        (b"\x04\x0f", "Step"),
+    ];
+    for (bytes, told) in rows {
+        expect_event(&rt, alloc, Version::Two, bytes, told)?;
     }
     Ok(())
 }
 
 /// The payload is read as the event that is shown so, and that event is written as the payload.
-fn expect_event(rt: &impl Abort, alloc: Global, bytes: &[u8], shown: &str) -> Result<(), Fail> {
-    let Payload::Event(event) = read_payload(alloc, bytes, false)?;
+fn expect_event(
+    rt: &impl Abort,
+    alloc: Global,
+    version: Version,
+    bytes: &[u8],
+    shown: &str,
+) -> Result<(), Fail> {
+    let event = read_event(alloc, version, bytes)?;
     let printed = format!(in alloc; "{event:?}");
-    let written = write_event(alloc, &event);
+    let written = write_event(alloc, version, &event);
     drop(event);
     assert_eq!(rt; printed?.as_str(), shown);
     assert_eq!(rt; written?.as_slice(), bytes);
@@ -85,18 +132,22 @@ fn expect_event(rt: &impl Abort, alloc: Global, bytes: &[u8], shown: &str) -> Re
 #[test]
 fn faults_are_told_with_their_place(rt: HostRuntime) -> Result<(), Fail> {
     let alloc = rt.alloc();
-    let rows: [(&[u8], u64); 32] = [
-        // The payload and its kind: none, one of a state, one of no event, and a byte behind an
-        // event.
+    let rows: [(&[u8], u64); 36] = [
+        // The payload and its kind: none, those of states and of an event of version Two, one of no
+        // event, and a byte behind an event.
         (b"", 0),
         (b"\x02\x01\0\0\0\0\0\0\0", 0),
+        (b"\x03\x01\0\0\0\0\0\0\0\0\0\0\0", 0),
+        (b"\x04\x0f", 0),
+        (b"\x04\x01\0\0\0\0\0\0\0\0\x01a", 0),
         (b"\x01", 1),
         (b"\x01\x10", 1),
         (b"\x01\0", 1),
         (b"\x01\x01\0\0\0\0\x01a\0", 8),
         (b"\x01\x0f\x0f", 2),
-        // A number that is cut short.
+        // A number that is cut short, and one of eight bytes.
         (b"\x01\x06\x01\0\0", 2),
+        (b"\x01\x06\x01\0\0\0\0\0\0\0", 6),
         (b"\x01\x05\x01\0\0\0\x02\0\0", 6),
         // Names: none, no name, one with a slash, one that is cut short.
         (b"\x01\x01\0\0\0\0\0", 6),
@@ -139,7 +190,52 @@ fn faults_are_told_with_their_place(rt: HostRuntime) -> Result<(), Fail> {
     ];
     for (bytes, at) in rows {
         assert_eq!(rt;
-            fault(alloc, bytes),
+            fault(alloc, Version::One, bytes),
+            Some(CodecFault::Bad { at }),
+            "at {bytes:?}"
+        );
+    }
+    Ok(())
+}
+
+#[test]
+fn faults_of_version_two_are_told_with_their_place(rt: HostRuntime) -> Result<(), Fail> {
+    let alloc = rt.alloc();
+    let rows: [(&[u8], u64); 17] = [
+        // The payload and its kind: none, those of an event of version One and of states, and a byte
+        // behind an event.
+        (b"", 0),
+        (b"\x01\x0f", 0),
+        (b"\x01\x01\0\0\0\0\0\0\0\0\x01a", 0),
+        (b"\x02\x01\0\0\0\0\0\0\0", 0),
+        (b"\x03\x01\0\0\0\0\0\0\0\0\0\0\0", 0),
+        (b"\x04", 1),
+        (b"\x04\x10", 1),
+        (b"\x04\x0f\x0f", 2),
+        // Numbers: one that is cut short, one of four bytes, one of nine, and ones that no entry may
+        // have.
+        (b"\x04\x06\x01\0\0\0\0\0\0", 2),
+        (b"\x04\x06\x01\0\0\0", 2),
+        (b"\x04\x06\x01\0\0\0\0\0\0\0\0", 10),
+        (b"\x04\x06\0\0\0\0\0\0\0\x40", 2),
+        (b"\x04\x05\x01\0\0\0\0\0\0\0\0\0\0\0\0\0\0\x40\x01c", 10),
+        // A directory of a query that no entry may be.
+        (
+            b"\x04\x09\0\0\0\0\0\0\0\0\x03\0\0\0\0\0\0\0\x40\0\0\0\0",
+            11,
+        ),
+        // Answers whose numbers don't rise.
+        (
+            b"\x04\x09\0\0\0\0\0\0\0\0\x01\x01\0a\x01\0\0\0\x02\0\0\0\x05\0\0\0\0\0\0\0\x05\0\0\0\0\0\0\0",
+            30,
+        ),
+        // Documents: 65,537 of them are too many. 10,001 aren't, but the first is missing.
+        (b"\x04\x0d\0\0\0\0\0\0\0\0\x01\0\x01\0", 10),
+        (b"\x04\x0d\0\0\0\0\0\0\0\0\x11\x27\0\0", 14),
+    ];
+    for (bytes, at) in rows {
+        assert_eq!(rt;
+            fault(alloc, Version::Two, bytes),
             Some(CodecFault::Bad { at }),
             "at {bytes:?}"
         );
@@ -203,12 +299,12 @@ fn fault_of_query(alloc: Global, parts: &[(&[u8], usize)]) -> Result<Option<Code
     for (part, count) in parts {
         repeat(&mut bytes, part, *count)?;
     }
-    Ok(fault(alloc, bytes.as_slice()))
+    Ok(fault(alloc, Version::One, bytes.as_slice()))
 }
 
 /// The fault of a payload, where it has one.
-fn fault(alloc: Global, bytes: &[u8]) -> Option<CodecFault> {
-    match read_payload(alloc, bytes, true) {
+fn fault(alloc: Global, version: Version, bytes: &[u8]) -> Option<CodecFault> {
+    match read_event(alloc, version, bytes) {
         Ok(_) => None,
         Err(fault) => Some(fault),
     }

@@ -4,4 +4,4 @@ use Rattle.event_codec.proofs.LoopLemmas.{GoesOn}
 use Rattle.event_codec.proofs.lists.items.Given as goal
 
 abbrev pub invariant-items : goal.invariant-items
-invariant-items g l = GoesOn g.T.Item.item l.items.items (l.count - l.counter) l.bytes (items_at g.T.Item.item l.fn.count None l.fn.bytes)
+invariant-items g l = GoesOn (g.T.Item.item l.fn.version) l.items.items (l.count - l.counter) l.bytes (items_at (g.T.Item.item l.fn.version) l.fn.count None l.fn.bytes)

@@ -10,13 +10,13 @@ use Rattle.event_codec.proofs.queries.tokens.Goals as goal
 
 pub returns-in_default : goal.returns-in_default
 returns-in_default c =
-    parts_done (tokens_of c.parts.tokens.items) c.parts.room.terms c.parts.room.letters (length c.args.bytes.now - c.parts.counter) c.parts.bytes _ (rw c.in_default.ensures.0 at c.parts.invariant)
+    parts_done c.args.version (tokens_of c.parts.tokens.items) c.parts.room.terms c.parts.room.letters (length c.args.bytes.now - c.parts.counter) c.parts.bytes _ (rw c.in_default.ensures.0 at c.parts.invariant)
 
 pub returns-in_err-token : goal.returns-in_err-token
 returns-in_err-token c =
     let more : c.parts.counter < length c.args.bytes.now = rw (← c.left-end.ensures.left) c.parts-test.true in
-    let wrong = part_fails c.in_err-token.field-0.0 (tokens_of c.parts.tokens.items) c.in-Some.nots c.pop.new.self c.parts.room.terms c.parts.room.letters (length c.args.bytes.now) c.parts.counter c.parts.bytes
-    (tokens_at (length c.args.bytes.now) (NESTING_LIMIT ∷ []) TERMS_LIMIT QUERY_LIMIT c.args.bytes.now) more c.in_err-token.ensures (rw c.in-Some.ensures at c.parts.invariant) in
+    let wrong = part_fails c.args.version c.in_err-token.field-0.0 (tokens_of c.parts.tokens.items) c.in-Some.nots c.pop.new.self c.parts.room.terms c.parts.room.letters (length c.args.bytes.now) c.parts.counter c.parts.bytes
+    (tokens_at c.args.version (length c.args.bytes.now) (NESTING_LIMIT ∷ []) TERMS_LIMIT QUERY_LIMIT c.args.bytes.now) more c.in_err-token.ensures (rw c.in-Some.ensures at c.parts.invariant) in
     let p = err_from_is_err_and c.from_residual-in_err-token.result c.from_residual-in_err-token.ensures.1 in
     rw (p.1, p.2) wrong
 
@@ -24,24 +24,24 @@ pub returns-then-not-branch : goal.returns-then-not-branch
 returns-then-not-branch c =
     let more : c.parts.counter < length c.args.bytes.now = rw (← c.left-end.ensures.left) c.parts-test.true in
     let none : room_after c.in-Some.nots c.pop.new.self c.parts.room.terms c.parts.room.letters (token_of c.in_ok-token.token) ≡ None = rw c.if-not-branch.true at c.in_ok-take.ensures in
-    rw c.bad-bad.ensures (part_barred (tokens_of c.parts.tokens.items) c.in-Some.nots c.pop.new.self c.parts.room.terms c.parts.room.letters (length c.args.bytes.now) c.parts.counter c.parts.bytes c.next_token.new.bytes (token_of c.in_ok-token.token)
-    (tokens_at (length c.args.bytes.now) (NESTING_LIMIT ∷ []) TERMS_LIMIT QUERY_LIMIT c.args.bytes.now) more c.in_ok-token.ensures none (rw c.in-Some.ensures at c.parts.invariant))
+    rw c.bad-bad.ensures (part_barred c.args.version (tokens_of c.parts.tokens.items) c.in-Some.nots c.pop.new.self c.parts.room.terms c.parts.room.letters (length c.args.bytes.now) c.parts.counter c.parts.bytes c.next_token.new.bytes (token_of c.in_ok-token.token)
+    (tokens_at c.args.version (length c.args.bytes.now) (NESTING_LIMIT ∷ []) TERMS_LIMIT QUERY_LIMIT c.args.bytes.now) more c.in_ok-token.ensures none (rw c.in-Some.ensures at c.parts.invariant))
 
 pub parts-preserved : goal.parts-preserved
 parts-preserved c =
     let more : c.parts.counter < length c.args.bytes.now = rw (← c.left-end.ensures.left) c.parts-test.true in
     let some : room_after c.in-Some.nots c.pop.new.self c.parts.room.terms c.parts.room.letters (token_of c.in_ok-token.token) ≡ Some (room_of c.take.new.self) = rw c.if-not-branch.false at c.in_ok-take.ensures in
-    rw (c.in_ok-push.ensures.items, map-last token_of c.parts.tokens.items c.in_ok-token.token) (part_read (tokens_of c.parts.tokens.items) c.in-Some.nots c.pop.new.self c.parts.room.terms c.parts.room.letters (length c.args.bytes.now) c.parts.counter c.parts.bytes c.next_token.new.bytes (token_of c.in_ok-token.token) (room_of c.take.new.self)
-    (tokens_at (length c.args.bytes.now) (NESTING_LIMIT ∷ []) TERMS_LIMIT QUERY_LIMIT c.args.bytes.now) more c.in_ok-token.ensures some (rw c.in-Some.ensures at c.parts.invariant))
+    rw (c.in_ok-push.ensures.items, map-last token_of c.parts.tokens.items c.in_ok-token.token) (part_read c.args.version (tokens_of c.parts.tokens.items) c.in-Some.nots c.pop.new.self c.parts.room.terms c.parts.room.letters (length c.args.bytes.now) c.parts.counter c.parts.bytes c.next_token.new.bytes (token_of c.in_ok-token.token) (room_of c.take.new.self)
+    (tokens_at c.args.version (length c.args.bytes.now) (NESTING_LIMIT ∷ []) TERMS_LIMIT QUERY_LIMIT c.args.bytes.now) more c.in_ok-token.ensures some (rw c.in-Some.ensures at c.parts.invariant))
 
 pub returns-then-is_empty : goal.returns-then-is_empty
 returns-then-is_empty c =
     let empty : c.parts.room.wanted ≡ [] = nil_from_length c.parts.room.wanted (eqb-true _ _ (sym c.is_empty.ensures ∙ c.if-is_empty.true)) in
-    parts_done (tokens_of c.parts.tokens.items) c.parts.room.terms c.parts.room.letters (length c.args.bytes.now - c.parts.counter) c.parts.bytes _ (rw empty at c.parts.invariant)
+    parts_done c.args.version (tokens_of c.parts.tokens.items) c.parts.room.terms c.parts.room.letters (length c.args.bytes.now - c.parts.counter) c.parts.bytes _ (rw empty at c.parts.invariant)
 
 pub returns : goal.returns
 returns c =
     let all : length c.args.bytes.now ≤ c.parts.counter = rw (← c.left-end.ensures.left) c.parts-test.false in
     let not_zero = eqb-false (length c.parts.room.wanted) 0 (sym c.is_empty.ensures ∙ c.if-is_empty.false) in
     let some : 0 < length c.parts.room.wanted = grind (arith, not_zero) in
-    parts_short (tokens_of c.parts.tokens.items) c.parts.room.wanted c.parts.room.terms c.parts.room.letters (length c.args.bytes.now) c.parts.counter c.parts.bytes _ all some c.parts.invariant
+    parts_short c.args.version (tokens_of c.parts.tokens.items) c.parts.room.wanted c.parts.room.terms c.parts.room.letters (length c.args.bytes.now) c.parts.counter c.parts.bytes _ all some c.parts.invariant

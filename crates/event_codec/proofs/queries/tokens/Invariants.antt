@@ -6,4 +6,4 @@ use Rattle.event_codec.proofs.PartLemmas.{PartsGoOn}
 use Rattle.event_codec.proofs.queries.tokens.Given as goal
 
 abbrev pub invariant-parts : goal.invariant-parts
-invariant-parts l = PartsGoOn (tokens_of l.tokens.items) (room_of l.room) (length l.fn.bytes - l.counter) l.bytes (tokens_at (length l.fn.bytes) (NESTING_LIMIT ∷ []) TERMS_LIMIT QUERY_LIMIT l.fn.bytes)
+invariant-parts l = PartsGoOn l.fn.version (tokens_of l.tokens.items) (room_of l.room) (length l.fn.bytes - l.counter) l.bytes (tokens_at l.fn.version (length l.fn.bytes) (NESTING_LIMIT ∷ []) TERMS_LIMIT QUERY_LIMIT l.fn.bytes)
