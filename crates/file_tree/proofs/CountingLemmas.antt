@@ -14,7 +14,7 @@ use Rattle.hac_model.specs.declared.states.State.{State}
 use Rattle.hac_model.proofs.ChangeLemmas.{is_kept}
 use Rattle.hac_model.proofs.CountLemmas.{is_queried, measured, measured-added, measured-changed, measured-cons, measured-removed, measured-reseated, one_if}
 use Rattle.hac_model.proofs.DepthLemmas.{paths-edited}
-use Rattle.hac_model.proofs.LimitLemmas.{IsWithinLimits, limits-within}
+use Rattle.hac_model.proofs.LimitLemmas.{IsWithinLimits, limits-within, most-dirs, most-mounts, most-numbers, most-symlinks}
 use Rattle.hac_model.proofs.ValidLemmas.{KeepsPlaces}
 use Rattle.file_tree.specs.Counting as counting
 use Rattle.file_tree.specs.Counting.{AreSmall, plus, share_of}
@@ -197,15 +197,15 @@ counts-small s h =
     let within : IsWithinLimits s = limits-within s h.limits in
     record {
       bytes_are = grind (arith, nat_tests, within.texts);
-      directories_are = grind (arith, nat_tests, within.dirs);
+      directories_are = grind (arith, nat_tests, most-dirs s within);
       semantics_are = grind (arith, nat_tests, within.semantics);
-      symlinks_are = grind (arith, nat_tests, within.symlinks);
-      mounts_are = grind (arith, nat_tests, within.mounts);
+      symlinks_are = grind (arith, nat_tests, most-symlinks s within);
+      mounts_are = grind (arith, nat_tests, most-mounts s within);
       files_are = grind (arith, nat_tests, within.items, files-few s.entries);
       items_are = grind (arith, nat_tests, within.items);
       dirty_are = grind (arith, nat_tests, within.items, files-few s.entries, dirty-few s.entries);
       long_paths_are = omega (arith, long-none s h.limits);
-      next_is = grind (arith, nat_tests, within.numbers);
+      next_is = grind (arith, nat_tests, most-numbers s within);
     }
 
 -- Counts that are known, and the part of an entry.

@@ -1,5 +1,5 @@
 -- A tree that is made entry by entry: what holds once the first ones are in it.
-use Rattle.std.proofs.Common.{◌≡◌, ℕ, ◌+◌, ◌<◌, ◌≤◌, Bool, true, false, cond, List, [], ◌∷◌, ◌++◌, subst, refl, ap, sym, ◌∙◌, arith, inl, inr, eq-eqb}
+use Rattle.std.proofs.Common.{◌≡◌, ℕ, ◌<◌, ◌≤◌, Bool, true, false, cond, List, [], ◌∷◌, ◌++◌, subst, refl, ap, sym, ◌∙◌, arith, inl, inr, eq-eqb}
 use Rattle.std.specs.Prelude.{◌==◌, ◌||◌, ◌&&◌, nat_eq, insert, is_some, Option, Some, None, IsTrue}
 use Rattle.std.specs.BTreeSet.{contains}
 use Rattle.std.specs.Option.{option_map, option_map_or}
@@ -18,8 +18,10 @@ use Rattle.hac_model.specs.declared.states.Body.{Body}
 use Rattle.hac_model.specs.declared.states.Body.TheVariants.{File, Dir, Symlink, Semantic, Mount, Document}
 use Rattle.hac_model.specs.declared.states.Entry.{Entry}
 use Rattle.hac_model.specs.declared.states.State.{State}
+use Rattle.hac_model.specs.declared.versions.Version.TheVariants.{Two}
 use Rattle.hac_model.proofs.AlikeLemmas.{entry_at-bare, layout-bare}
 use Rattle.hac_model.proofs.ChangeLemmas.{entry_at-new, entry_at-other}
+use Rattle.hac_model.proofs.RaisedLemmas.{raised-layout}
 use Rattle.hac_model.proofs.TreeLemmas.{Lives, child-own, directory-lives, entry_at-all, entry_at-below, entry_at-first, entry_at-low, entry_at-next, place-directory, rise-below}
 use Rattle.file_tree.specs.Answers.{is_dirty_at}
 use Rattle.file_tree.specs.Loading.{IsLoaded, IsPlaced, IsPrepared, bare_entry, is_to_load}
@@ -97,7 +99,7 @@ loaded-all next all loading h = subst (λ (es : List Entry). IsLoaded next es lo
     whole : all ≡ h.taken
     whole = h.split ∙ append-nil h.taken
 
-module _ (next : ℕ) (all : List Entry) (layout : IsLayout (record { next = next; entries = all; sessions = [] })) (taken : List Entry) (e : Entry) (rest : List Entry) (split : all ≡ taken ++ e ∷ rest) where
+module _ (next : ℕ) (all : List Entry) (layout : IsLayout (state_with Two next all)) (taken : List Entry) (e : Entry) (rest : List Entry) (split : all ≡ taken ++ e ∷ rest) where
   behind : (0 < e.number) × (entry_at taken e.number ≡ None)
   behind = rise-fresh 0 taken e rest next (subst (λ (es : List Entry). NumbersRise 0 es next) split layout.numbers)
 
@@ -202,13 +204,15 @@ module _ (next : ℕ) (all : List Entry) (layout : IsLayout (record { next = nex
       linked : AreNested next (told_at e.number (Some (bare_entry e)) at) (told_at e.number e.name names) (told_at e.parent (insert (kids e.parent) (rank_in names e.name (kids e.parent)) e.number) kids)
       linked = tree-linked next next at names kids e.number e.parent (bare_entry e) e.name h.lists (before e.number ∙ ap (λ (o : Option Entry). option_map bare_entry o) behind.1) behind.0 low (omega arith) directory-low refl free
 
--- the layout of a state is that of its entries
-pub layout-alone : (s : State) → IsLayout s → IsLayout (record { next = s.next; entries = s.entries; sessions = [] })
+-- the layout of a state is that of its entries, which fit in a store of version 2 too
+pub layout-alone : (s : State) → IsLayout s → IsLayout (state_with Two s.next s.entries)
 unfolding passed_limit
-layout-alone s h = record { numbers = h.numbers; names = h.names; places = h.places; differ = h.differ; bodies = h.bodies; limits = h.limits }
+layout-alone s h =
+    let high = raised-layout s h in
+    record { numbers = h.numbers; names = h.names; places = h.places; differ = h.differ; bodies = h.bodies; limits = high.limits }
 
 -- What is loaded is the state without what is kept beside it.
-module _ (s : State) (layout : IsLayout s) (u : Inside) (next : u.next ≡ s.next) (loaded : (n : ℕ) → entry_of u.nodes n ≡ option_map bare_entry (entry_at s.entries n)) where
+module _ (s : State) (layout : IsLayout s) (u : Inside) (next : u.next ≡ s.next) (version : u.version ≡ s.version) (loaded : (n : ℕ) → entry_of u.nodes n ≡ option_map bare_entry (entry_at s.entries n)) where
   told : (n : ℕ) → entry_of u.nodes n ≡ entry_at (bare s).entries n
   told n = loaded n ∙ sym (entry_at-bare s n)
 
@@ -217,8 +221,8 @@ module _ (s : State) (layout : IsLayout s) (u : Inside) (next : u.next ≡ s.nex
 
   pub state-loaded : state_of u ≡ bare s
   state-loaded =
-      ap (λ (k : ℕ). state_with k (entries_below k (entry_of u.nodes))) next
-      ∙ ap (λ (es : List Entry). state_with s.next es) (below-risen s.next (entry_of u.nodes) (bare s).entries (entry_of-number u.nodes) (told 0 ∙ entry_at-low 0 (bare s).entries s.next 0 (layout-bare s layout).numbers (omega arith)) (layout-bare s layout).numbers above told)
+      (λ i. state_with (version i) (next i) (entries_below (next i) (entry_of u.nodes)))
+      ∙ ap (λ (es : List Entry). state_with s.version s.next es) (below-risen s.next (entry_of u.nodes) (bare s).entries (entry_of-number u.nodes) (told 0 ∙ entry_at-low 0 (bare s).entries s.next 0 (layout-bare s layout).numbers (omega arith)) (layout-bare s layout).numbers above told)
 
   pub shaped-loaded : ((n : ℕ) → has_node u.nodes n ≡ is_to_load s.entries n) → AreNested s.next (entry_of u.nodes) (name_of u.nodes) (kids_of u.nodes) → HasSpare u.ready u.nodes u.next → IsShaped u
   shaped-loaded numbers lists spare = record {

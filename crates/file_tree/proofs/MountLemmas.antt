@@ -54,6 +54,7 @@ module _ (t : Inside) (s : Seen) (view : seen_of t ≡ s) (h : IsShaped t) (u : 
   -- what is under each number then
   pub record IsMounted : Type 0 where
     pub next : u.next ≡ t.next + 1 + length xs
+    pub version : u.version ≡ t.version
     pub entries : (n : ℕ) → entry_of u.nodes n ≡ with_entries (documents_from (t.next + 1) t.next xs) at n
     pub named : (n : ℕ) → name_of u.nodes n ≡ with_names (documents_from (t.next + 1) t.next xs) names n
     pub lists : (d : ℕ) → kids_of u.nodes d ≡ told_at t.next (numbers_up (t.next + 1) (length xs)) kids d
@@ -72,7 +73,7 @@ module _ (t : Inside) (s : Seen) (view : seen_of t ≡ s) (h : IsShaped t) (u : 
         below-same (t.next + 1) at (entry_of u.nodes) low-entry ∙ below-added t.next (entry_of t.nodes) at new (λ n. refl) in
         let all : entries_below u.next (entry_of u.nodes) ≡ entries_below t.next (entry_of t.nodes) ++ new ∷ [] ++ documents =
         ap (λ (k : ℕ). entries_below k (entry_of u.nodes)) far ∙ below-more (t.next + 1) (entry_of u.nodes) documents follow ∙ ap (λ (es : List Entry). es ++ documents) first in
-        (λ i. state_with (m.next i) (all i))
+        (λ i. state_with (m.version i) (m.next i) (all i))
         ∙ ap (λ (x : Seen). mounted x.state dir name space [] xs) view
 
     pub clean-mounted : (n : ℕ) → dirty_in (entry_of u.nodes n) ≡ dirty_in (entry_of t.nodes n)

@@ -1,19 +1,21 @@
 -- A tree of the root alone, and what a new entry finds.
-use Rattle.std.proofs.Common.{◌≡◌, ℕ, List, [], subst, ap, sym, ◌∙◌, arith}
+use Rattle.std.proofs.Common.{◌≡◌, ℕ, List, [], subst, refl, ap, sym, ◌∙◌, arith}
 use Rattle.std.specs.Prelude.{nat_eq, Option, None, false, true, is_some, option_and_then}
 use Rattle.std.specs.Option.{option_map, option_map_or, option_to_list}
 use Rattle.std.specs.Map.{lookup}
 use Rattle.indexmap.specs.IndexMap.{IndexMap}
 use Rattle.hac_model.specs.Tree.Depends.{Among}
 use Rattle.hac_model.specs.Tree.Events.{added}
-use Rattle.hac_model.specs.Tree.{empty}
+use Rattle.hac_model.specs.Tree.{root_alone}
+use Rattle.hac_model.specs.Tree.Limits.{first_passed, passed_limit}
 use Rattle.hac_model.specs.Tree.Valid.{IsLayout, IsSound}
 use Rattle.hac_model.specs.declared.states.Body.{Body}
 use Rattle.hac_model.specs.declared.states.Entry.{Entry}
 use Rattle.hac_model.specs.declared.states.State.{State}
+use Rattle.hac_model.specs.declared.versions.Version.{Version}
+use Rattle.hac_model.specs.declared.versions.Version.TheVariants.{One, Two}
 use Rattle.hac_model.proofs.ChangeLemmas.{entry_at-new}
 use Rattle.hac_model.proofs.TreeLemmas.{entry_at-all, entry_at-next}
-use Rattle.hac_model.proofs.ValidLemmas.{empty-layout}
 use Rattle.file_tree.specs.Nodes.{entries_below, entry_from, entry_of, has_node, if_placed, kids_of, name_of}
 use Rattle.file_tree.specs.Ready.{ready_for}
 use Rattle.file_tree.specs.Shape.{HasNew, HasSpare, IsShaped, NamesRise, parent_in, state_of}
@@ -21,6 +23,7 @@ use Rattle.file_tree.specs.declared.nodes.NewBody.{NewBody}
 use Rattle.file_tree.specs.declared.nodes.NewBody.TheVariants as new
 use Rattle.file_tree.specs.declared.nodes.Node.{Node}
 use Rattle.file_tree.specs.declared.tree.Tree.TheInside.{Inside}
+use Rattle.file_tree.proofs.StateLemmas.{state_with}
 
 module _ {S : Type 0} where
   pub empty-entry : (nodes : IndexMap ℕ Node S) → nodes.entries ≡ [] → (n : ℕ) → entry_of nodes n ≡ None
@@ -36,11 +39,17 @@ module _ {S : Type 0} where
 nowhere : (ns : List ℕ) (n : ℕ) → ns ≡ [] → Among ns n → ⊥
 nowhere ns n none among = subst (λ (xs : List ℕ). Among xs n) none among
 
-pub state-new : (u : Inside) → u.next ≡ 1 → ((n : ℕ) → entry_of u.nodes n ≡ None) → state_of u ≡ empty
+pub state-new : (u : Inside) → u.next ≡ 1 → ((n : ℕ) → entry_of u.nodes n ≡ None) → state_of u ≡ root_alone u.version
 state-new u next entries =
-    let first : state_of u ≡ record { next = 1; entries = entries_below 1 (entry_of u.nodes); sessions = [] } = ap (λ (k : ℕ). record { next = k; entries = entries_below k (entry_of u.nodes); sessions = [] }) next in
+    let first : state_of u ≡ state_with u.version 1 (entries_below 1 (entry_of u.nodes)) = ap (λ (k : ℕ). state_with u.version k (entries_below k (entry_of u.nodes))) next in
     let none : entries_below 1 (entry_of u.nodes) ≡ [] = ap (λ (o : Option Entry). option_to_list o) (entries 0) in
-    first ∙ ap (λ (es : List Entry). record { next = 1; entries = es; sessions = [] }) none
+    first ∙ ap (λ (es : List Entry). state_with u.version 1 es) none
+
+-- it fits in a store of any version
+alone-layout : (version : Version) → IsLayout (root_alone version)
+unfolding passed_limit first_passed
+alone-layout One = record { numbers = omega arith; names = tt; places = tt; differ = tt; bodies = tt; limits = refl }
+alone-layout Two = record { numbers = omega arith; names = tt; places = tt; differ = tt; bodies = tt; limits = refl }
 
 pub shaped-new : (u : Inside) → u.next ≡ 1 → ((n : ℕ) → entry_of u.nodes n ≡ None) → ((dir : ℕ) → kids_of u.nodes dir ≡ []) → has_node u.nodes 0 ≡ true → ((n : ℕ) → (n ≡ 0 → ⊥) → has_node u.nodes n ≡ false) → HasSpare u.ready u.nodes u.next → IsShaped u
 shaped-new u next entries kids root others spare = record {
@@ -52,7 +61,7 @@ shaped-new u next entries kids root others spare = record {
     lists = λ dir n stands. (let none : parent_in (entry_of u.nodes n) ≡ None = ap parent_in (entries n) in absurd cc);
     rises = λ dir. subst (λ (ns : List ℕ). NamesRise (name_of u.nodes) ns) (sym (kids dir)) tt;
   };
-  layout = subst IsLayout (sym (state-new u next entries)) empty-layout;
+  layout = subst IsLayout (sym (state-new u next entries)) (alone-layout u.version);
   root = root;
   spare = spare;
   others = λ n root ahead none. others n root;

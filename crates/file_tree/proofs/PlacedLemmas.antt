@@ -41,10 +41,10 @@ same-counts : (s t : State) → bare s ≡ bare t → counts s ≡ counts t
 same-counts s t same = sym (counts-bare s) ∙ ap counts same ∙ counts-bare t
 
 pub forgotten-counts : (s : State) (n : ℕ) → counts (forgotten s n) ≡ counts s
-forgotten-counts s n = same-counts (forgotten s n) s (λ i. record { next = s.next; entries = forgotten-entries n s.entries i; sessions = [] })
+forgotten-counts s n = same-counts (forgotten s n) s (λ i. record { version = s.version; next = s.next; entries = forgotten-entries n s.entries i; sessions = [] })
 
 marked-counts : (s : State) (dir item : ℕ) (kind : Kind) → counts s ≡ counts (changed_at s dir (edited (marked item kind)))
-marked-counts s dir item kind = same-counts s (changed_at s dir (edited (marked item kind))) (λ i. record { next = s.next; entries = sym (same s.entries) i; sessions = [] })
+marked-counts s dir item kind = same-counts s (changed_at s dir (edited (marked item kind))) (λ i. record { version = s.version; next = s.next; entries = sym (same s.entries) i; sessions = [] })
   where
     same : (es : List Entry) → map (edited bare_body) (changed_in dir (edited (marked item kind)) es) ≡ map (edited bare_body) es
     same [] = refl

@@ -12,6 +12,7 @@ use Rattle.hac_model.specs.Tree.Valid.{IsLayout}
 use Rattle.hac_model.specs.declared.states.Body.{Body}
 use Rattle.hac_model.specs.declared.states.Entry.{Entry}
 use Rattle.hac_model.specs.declared.states.State.{State}
+use Rattle.hac_model.specs.declared.versions.Version.{Version}
 use Rattle.hac_model.proofs.PathLemmas.{parent-directory, path_of-deeper}
 use Rattle.hac_model.proofs.TreeLemmas.{Lives, child-own, directory-lives, entry_at-below, rise-below}
 use Rattle.file_tree.specs.Nodes.{entries_below, entry_of, has_node, kids_of, name_of}
@@ -25,8 +26,8 @@ use Rattle.file_tree.proofs.ListLemmas.{none-among, rank-inside}
 use Rattle.file_tree.proofs.ReadLemmas.{entry_of-number, none-there, seen-at, seen-entry}
 use Rattle.file_tree.proofs.ShapeLemmas.{none-standing, same-or-not, told_at, told-here, told-there, tree-linked, tree-same, tree-unlinked}
 
-abbrev pub state_with : ℕ → List Entry → State
-state_with next entries = record { next = next; entries = entries; sessions = [] }
+abbrev pub state_with : Version → ℕ → List Entry → State
+state_with version next entries = record { version = version; next = next; entries = entries; sessions = [] }
 
 -- what is there after a change of one entry
 abbrev pub touched_at : ℕ → (Entry → Entry) → (ℕ → Option Entry) → ℕ → Option Entry
@@ -42,31 +43,31 @@ module _ (t : Inside) (s : Seen) (view : seen_of t ≡ s) (h : IsShaped t) (u : 
   seen-state = ap (λ (x : Seen). x.state) view
 
   -- the entries stay
-  pub state-same : u.next ≡ t.next → ((n : ℕ) → entry_of u.nodes n ≡ entry_of t.nodes n) → state_of u ≡ s.state
-  state-same next told =
-      ap (λ (k : ℕ). state_with k (entries_below k (entry_of u.nodes))) next
-      ∙ ap (λ (es : List Entry). state_with t.next es) (below-same t.next (entry_of t.nodes) (entry_of u.nodes) (λ n low. told n))
+  pub state-same : u.next ≡ t.next → u.version ≡ t.version → ((n : ℕ) → entry_of u.nodes n ≡ entry_of t.nodes n) → state_of u ≡ s.state
+  state-same next version told =
+      (λ i. state_with (version i) (next i) (entries_below (next i) (entry_of u.nodes)))
+      ∙ ap (λ (es : List Entry). state_with t.version t.next es) (below-same t.next (entry_of t.nodes) (entry_of u.nodes) (λ n low. told n))
       ∙ seen-state
 
   -- an entry is changed
-  pub state-changed : (m : ℕ) (change : Entry → Entry) → u.next ≡ t.next → ((n : ℕ) → entry_of u.nodes n ≡ touched_at m change (entry_of t.nodes) n) → state_of u ≡ changed_at s.state m change
-  state-changed m change next told =
-      ap (λ (k : ℕ). state_with k (entries_below k (entry_of u.nodes))) next
-      ∙ ap (λ (es : List Entry). state_with t.next es) (below-changed t.next (entry_of t.nodes) (entry_of u.nodes) m change (entry_of-number t.nodes) told)
+  pub state-changed : (m : ℕ) (change : Entry → Entry) → u.next ≡ t.next → u.version ≡ t.version → ((n : ℕ) → entry_of u.nodes n ≡ touched_at m change (entry_of t.nodes) n) → state_of u ≡ changed_at s.state m change
+  state-changed m change next version told =
+      (λ i. state_with (version i) (next i) (entries_below (next i) (entry_of u.nodes)))
+      ∙ ap (λ (es : List Entry). state_with t.version t.next es) (below-changed t.next (entry_of t.nodes) (entry_of u.nodes) m change (entry_of-number t.nodes) told)
       ∙ ap (λ (x : State). changed_at x m change) seen-state
 
   -- an entry is taken out
-  pub state-removed : (m : ℕ) → u.next ≡ t.next → ((n : ℕ) → entry_of u.nodes n ≡ told_at m None (entry_of t.nodes) n) → state_of u ≡ removed s.state m
-  state-removed m next told =
-      ap (λ (k : ℕ). state_with k (entries_below k (entry_of u.nodes))) next
-      ∙ ap (λ (es : List Entry). state_with t.next es) (below-removed t.next (entry_of t.nodes) (entry_of u.nodes) m (entry_of-number t.nodes) told)
+  pub state-removed : (m : ℕ) → u.next ≡ t.next → u.version ≡ t.version → ((n : ℕ) → entry_of u.nodes n ≡ told_at m None (entry_of t.nodes) n) → state_of u ≡ removed s.state m
+  state-removed m next version told =
+      (λ i. state_with (version i) (next i) (entries_below (next i) (entry_of u.nodes)))
+      ∙ ap (λ (es : List Entry). state_with t.version t.next es) (below-removed t.next (entry_of t.nodes) (entry_of u.nodes) m (entry_of-number t.nodes) told)
       ∙ ap (λ (x : State). removed x m) seen-state
 
   -- an entry is added
-  pub state-added : (dir : ℕ) (name : List ℕ) (body : Body) → u.next ≡ t.next + 1 → ((n : ℕ) → entry_of u.nodes n ≡ told_at t.next (Some (record { number = t.next; parent = dir; name = name; body = body })) (entry_of t.nodes) n) → state_of u ≡ added s.state dir name body
-  state-added dir name body next told =
-      ap (λ (k : ℕ). state_with k (entries_below k (entry_of u.nodes))) next
-      ∙ ap (λ (es : List Entry). state_with (t.next + 1) es) (below-added t.next (entry_of t.nodes) (entry_of u.nodes) (record { number = t.next; parent = dir; name = name; body = body }) told)
+  pub state-added : (dir : ℕ) (name : List ℕ) (body : Body) → u.next ≡ t.next + 1 → u.version ≡ t.version → ((n : ℕ) → entry_of u.nodes n ≡ told_at t.next (Some (record { number = t.next; parent = dir; name = name; body = body })) (entry_of t.nodes) n) → state_of u ≡ added s.state dir name body
+  state-added dir name body next version told =
+      (λ i. state_with (version i) (next i) (entries_below (next i) (entry_of u.nodes)))
+      ∙ ap (λ (es : List Entry). state_with t.version (t.next + 1) es) (below-added t.next (entry_of t.nodes) (entry_of u.nodes) (record { number = t.next; parent = dir; name = name; body = body }) told)
       ∙ ap (λ (x : State). added x dir name body) seen-state
 
   -- the root has its node still
@@ -78,9 +79,9 @@ module _ (t : Inside) (s : Seen) (view : seen_of t ≡ s) (h : IsShaped t) (u : 
   none-other next numbers none n root low gone = let below : n < t.next = subst (λ (k : ℕ). n < k) next low in numbers n below ∙ h.others n root below (none n gone)
 
   -- the tree keeps what it kept where neither parents nor children changed
-  pub shaped-same : u.next ≡ t.next → ((n : ℕ) → parent_in (entry_of u.nodes n) ≡ parent_in (entry_of t.nodes n)) → ((dir n : ℕ) → parent_in (entry_of t.nodes n) ≡ Some dir → name_of u.nodes n ≡ name_of t.nodes n) → ((dir : ℕ) → kids_of u.nodes dir ≡ kids_of t.nodes dir) →
+  pub shaped-same : u.next ≡ t.next → u.version ≡ t.version → ((n : ℕ) → parent_in (entry_of u.nodes n) ≡ parent_in (entry_of t.nodes n)) → ((dir n : ℕ) → parent_in (entry_of t.nodes n) ≡ Some dir → name_of u.nodes n ≡ name_of t.nodes n) → ((dir : ℕ) → kids_of u.nodes dir ≡ kids_of t.nodes dir) →
       ((n : ℕ) → n < t.next → has_node u.nodes n ≡ has_node t.nodes n) → IsLayout (state_of u) → HasSpare u.ready u.nodes u.next → IsShaped u
-  shaped-same next parents names kids numbers layout spare = record {
+  shaped-same next version parents names kids numbers layout spare = record {
     lists = subst (λ (k : ℕ). AreNested k (entry_of u.nodes) (name_of u.nodes) (kids_of u.nodes)) (sym next)
         (tree-same t.next (entry_of t.nodes) (entry_of u.nodes) (name_of t.nodes) (name_of u.nodes) (kids_of t.nodes) (kids_of u.nodes) h.lists parents names kids);
     layout = layout;
@@ -90,25 +91,25 @@ module _ (t : Inside) (s : Seen) (view : seen_of t ≡ s) (h : IsShaped t) (u : 
   }
 
   -- a body is edited
-  pub shaped-edited : (m : ℕ) (edit : Body → Body) → u.next ≡ t.next → ((n : ℕ) → entry_of u.nodes n ≡ touched_at m (edited edit) (entry_of t.nodes) n) → ((n : ℕ) → name_of u.nodes n ≡ name_of t.nodes n) → ((dir : ℕ) → kids_of u.nodes dir ≡ kids_of t.nodes dir) →
+  pub shaped-edited : (m : ℕ) (edit : Body → Body) → u.next ≡ t.next → u.version ≡ t.version → ((n : ℕ) → entry_of u.nodes n ≡ touched_at m (edited edit) (entry_of t.nodes) n) → ((n : ℕ) → name_of u.nodes n ≡ name_of t.nodes n) → ((dir : ℕ) → kids_of u.nodes dir ≡ kids_of t.nodes dir) →
       ((n : ℕ) → has_node u.nodes n ≡ has_node t.nodes n) → IsLayout (changed_at s.state m (edited edit)) → HasSpare u.ready u.nodes u.next → IsShaped u
-  shaped-edited m edit next told names kids numbers layout spare =
-      shaped-same next (λ n. ap parent_in (told n) ∙ parent-edited (nat_eq m n) edit (entry_of t.nodes n)) (λ dir n stands. names n) kids (λ n other. numbers n)
-      (subst IsLayout (sym (state-changed m (edited edit) next told)) layout) spare
+  shaped-edited m edit next version told names kids numbers layout spare =
+      shaped-same next version (λ n. ap parent_in (told n) ∙ parent-edited (nat_eq m n) edit (entry_of t.nodes n)) (λ dir n stands. names n) kids (λ n other. numbers n)
+      (subst IsLayout (sym (state-changed m (edited edit) next version told)) layout) spare
 
   -- a number that has an entry is below the next one
   pub entry-low : (n : ℕ) (e : Entry) → entry_of t.nodes n ≡ Some e → n < t.next
   entry-low n e found = entry_at-below 0 (state_of t).entries t.next n e h.layout.numbers (seen-entry t h n ∙ found)
 
   -- nodes that are no entries are under numbers that weren't taken
-  pub shaped-prepared : u.next ≡ t.next → ((n : ℕ) → entry_of u.nodes n ≡ entry_of t.nodes n) → ((n : ℕ) → n < t.next → name_of u.nodes n ≡ name_of t.nodes n) → ((dir : ℕ) → kids_of u.nodes dir ≡ kids_of t.nodes dir) →
+  pub shaped-prepared : u.next ≡ t.next → u.version ≡ t.version → ((n : ℕ) → entry_of u.nodes n ≡ entry_of t.nodes n) → ((n : ℕ) → n < t.next → name_of u.nodes n ≡ name_of t.nodes n) → ((dir : ℕ) → kids_of u.nodes dir ≡ kids_of t.nodes dir) →
       ((n : ℕ) → n < t.next → has_node u.nodes n ≡ has_node t.nodes n) → HasSpare u.ready u.nodes u.next → IsShaped u
-  shaped-prepared next told names kids numbers spare =
-      shaped-same next (λ n. ap parent_in (told n))
+  shaped-prepared next version told names kids numbers spare =
+      shaped-same next version (λ n. ap parent_in (told n))
       (λ dir n stands.
       let found = parent-told (entry_of t.nodes n) dir stands in
       names n (entry-low n found.0 found.1))
-      kids numbers (subst IsLayout (sym (state-same next told)) (subst (λ (x : Seen). IsLayout x.state) view h.layout)) spare
+      kids numbers (subst IsLayout (sym (state-same next version told)) (subst (λ (x : Seen). IsLayout x.state) view h.layout)) spare
 
   -- a directory has a node, and its number is below the next one
   pub directory-there : (dir : ℕ) → is_directory_at s.state.entries dir ≡ true → (has_node t.nodes dir ≡ true) × (dir < t.next)
@@ -139,10 +140,10 @@ true-or-false false = inr refl
 
 module _ (t : Inside) (s : Seen) (view : seen_of t ≡ s) (h : IsShaped t) (u : Inside) where
   -- an entry is added
-  pub shaped-added : (dir : ℕ) (name : List ℕ) (body : Body) → u.next ≡ t.next + 1 → ((n : ℕ) → entry_of u.nodes n ≡ told_at t.next (Some (record { number = t.next; parent = dir; name = name; body = body })) (entry_of t.nodes) n) →
+  pub shaped-added : (dir : ℕ) (name : List ℕ) (body : Body) → u.next ≡ t.next + 1 → u.version ≡ t.version → ((n : ℕ) → entry_of u.nodes n ≡ told_at t.next (Some (record { number = t.next; parent = dir; name = name; body = body })) (entry_of t.nodes) n) →
       ((n : ℕ) → name_of u.nodes n ≡ told_at t.next name (name_of t.nodes) n) → ((d : ℕ) → kids_of u.nodes d ≡ told_at dir (insert (kids_of t.nodes dir) (rank_in (name_of t.nodes) name (kids_of t.nodes dir)) t.next) (kids_of t.nodes) d) →
       ((n : ℕ) → has_node u.nodes n ≡ has_node t.nodes n) → dir < t.next → IsLayout (added s.state dir name body) → HasSpare u.ready u.nodes u.next → IsShaped u
-  shaped-added dir name body next told names kids numbers low layout spare = record {
+  shaped-added dir name body next version told names kids numbers low layout spare = record {
     lists = subst (λ (k : ℕ). AreNested k (entry_of u.nodes) (name_of u.nodes) (kids_of u.nodes)) (sym next)
         (tree-same (t.next + 1) (told_at t.next (Some new) (entry_of t.nodes)) (entry_of u.nodes) (told_at t.next name (name_of t.nodes)) (name_of u.nodes) (told_at dir (insert (kids_of t.nodes dir) (rank_in (name_of t.nodes) name (kids_of t.nodes dir)) t.next) (kids_of t.nodes)) (kids_of u.nodes) linked
         (λ n. ap parent_in (told n)) (λ d n stands. names n) kids);
@@ -156,7 +157,7 @@ module _ (t : Inside) (s : Seen) (view : seen_of t ≡ s) (h : IsShaped t) (u : 
       new = record { number = t.next; parent = dir; name = name; body = body }
 
       sound : IsLayout (state_of u)
-      sound = subst IsLayout (sym (state-added t s view h u dir name body next told)) layout
+      sound = subst IsLayout (sym (state-added t s view h u dir name body next version told)) layout
 
       here : entry_of u.nodes t.next ≡ Some new
       here = told t.next ∙ told-here t.next (Some new) (entry_of t.nodes)
@@ -185,10 +186,10 @@ module _ (t : Inside) (s : Seen) (view : seen_of t ≡ s) (h : IsShaped t) (u : 
       linked = tree-linked t.next (t.next + 1) (entry_of t.nodes) (name_of t.nodes) (kids_of t.nodes) t.next dir new name h.lists (h.lists.above t.next (omega arith)) (rise-below 0 (state_of t).entries t.next h.layout.numbers) (omega arith) (omega arith) (omega arith) refl free
 
   -- an entry is taken out, with its list, which is empty
-  pub shaped-removed : (n dir : ℕ) → u.next ≡ t.next → parent_in (entry_of t.nodes n) ≡ Some dir → ((q : ℕ) → entry_of u.nodes q ≡ told_at n None (entry_of t.nodes) q) → ((q : ℕ) → nat_eq n q ≡ false → name_of u.nodes q ≡ name_of t.nodes q) →
+  pub shaped-removed : (n dir : ℕ) → u.next ≡ t.next → u.version ≡ t.version → parent_in (entry_of t.nodes n) ≡ Some dir → ((q : ℕ) → entry_of u.nodes q ≡ told_at n None (entry_of t.nodes) q) → ((q : ℕ) → nat_eq n q ≡ false → name_of u.nodes q ≡ name_of t.nodes q) →
       ((d : ℕ) → kids_of u.nodes d ≡ told_at n [] (told_at dir (remove (kids_of t.nodes dir) (rank_in (name_of t.nodes) (name_of t.nodes n) (kids_of t.nodes dir))) (kids_of t.nodes)) d) →
       ((q : ℕ) → has_node u.nodes q ≡ told_at n false (has_node t.nodes) q) → IsLayout (removed s.state n) → HasSpare u.ready u.nodes u.next → IsShaped u
-  shaped-removed n dir next stands told names kids numbers layout spare = record {
+  shaped-removed n dir next version stands told names kids numbers layout spare = record {
     lists = subst (λ (k : ℕ). AreNested k (entry_of u.nodes) (name_of u.nodes) (kids_of u.nodes)) (sym next)
         (tree-same t.next (told_at n None (entry_of t.nodes)) (entry_of u.nodes) (name_of t.nodes) (name_of u.nodes) cut (kids_of u.nodes) (tree-unlinked t.next (entry_of t.nodes) (name_of t.nodes) (kids_of t.nodes) n dir h.lists stands)
         (λ q. ap parent_in (told q)) (λ d q there. names q (ne_eqb n q (λ same.
@@ -208,7 +209,7 @@ module _ (t : Inside) (s : Seen) (view : seen_of t ≡ s) (h : IsShaped t) (u : 
       cut = told_at dir (remove (kids_of t.nodes dir) (rank_in (name_of t.nodes) (name_of t.nodes n) (kids_of t.nodes dir))) (kids_of t.nodes)
 
       sound : IsLayout (state_of u)
-      sound = subst IsLayout (sym (state-removed t s view h u n next told)) layout
+      sound = subst IsLayout (sym (state-removed t s view h u n next version told)) layout
 
       above : (q : ℕ) → u.next ≤ q → entry_of u.nodes q ≡ None
       above q high = told q ∙ (elim (nat_eq n q) as (λ b. cond b None (entry_of t.nodes q) ≡ None) [ true ↦ refl | false ↦ h.lists.above q (subst (λ (k : ℕ). k ≤ q) next high) ])
@@ -263,11 +264,11 @@ module _ (t : Inside) (s : Seen) (view : seen_of t ≡ s) (h : IsShaped t) (n : 
 
 module _ (t : Inside) (s : Seen) (view : seen_of t ≡ s) (h : IsShaped t) (u : Inside) where
   -- an entry is moved
-  pub shaped-moved : (n dir old : ℕ) (name : List ℕ) → u.next ≡ t.next → parent_in (entry_of t.nodes n) ≡ Some old → ((q : ℕ) → entry_of u.nodes q ≡ touched_at n (reseated dir name) (entry_of t.nodes) q) → ((q : ℕ) → name_of u.nodes q ≡ told_at n name (name_of t.nodes) q) →
+  pub shaped-moved : (n dir old : ℕ) (name : List ℕ) → u.next ≡ t.next → u.version ≡ t.version → parent_in (entry_of t.nodes n) ≡ Some old → ((q : ℕ) → entry_of u.nodes q ≡ touched_at n (reseated dir name) (entry_of t.nodes) q) → ((q : ℕ) → name_of u.nodes q ≡ told_at n name (name_of t.nodes) q) →
       (cut : ℕ → List ℕ) → ((d : ℕ) → cut d ≡ told_at old (remove (kids_of t.nodes old) (rank_in (name_of t.nodes) (name_of t.nodes n) (kids_of t.nodes old))) (kids_of t.nodes) d) →
       ((d : ℕ) → kids_of u.nodes d ≡ told_at dir (insert (cut dir) (rank_in (name_of t.nodes) name (cut dir)) n) cut d) →
       ((q : ℕ) → has_node u.nodes q ≡ has_node t.nodes q) → dir < t.next → IsLayout (changed_at s.state n (reseated dir name)) → HasSpare u.ready u.nodes u.next → IsShaped u
-  shaped-moved n dir old name next stands told names cut left kids numbers low layout spare = record {
+  shaped-moved n dir old name next version stands told names cut left kids numbers low layout spare = record {
     lists = subst (λ (k : ℕ). AreNested k (entry_of u.nodes) (name_of u.nodes) (kids_of u.nodes)) (sym next)
         (tree-same t.next (told_at n (Some new) (told_at n None (entry_of t.nodes))) (entry_of u.nodes) (told_at n name (name_of t.nodes)) (name_of u.nodes) (told_at dir (insert (cut dir) (rank_in (name_of t.nodes) name (cut dir)) n) cut) (kids_of u.nodes) linked parents (λ d q there. names q) kids);
     layout = sound;
@@ -283,7 +284,7 @@ module _ (t : Inside) (s : Seen) (view : seen_of t ≡ s) (h : IsShaped t) (u : 
       new = reseated dir name entry.0
 
       sound : IsLayout (state_of u)
-      sound = subst IsLayout (sym (state-changed t s view h u n (reseated dir name) next told)) layout
+      sound = subst IsLayout (sym (state-changed t s view h u n (reseated dir name) next version told)) layout
 
       untouched : (b : Bool) (found : Option Entry) → cond b (option_map (reseated dir name) found) found ≡ None → found ≡ None
       untouched b None none = refl

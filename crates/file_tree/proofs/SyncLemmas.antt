@@ -203,6 +203,7 @@ module _ (t : Inside) (h : IsShaped t) (mount : ℕ) (is : is_mount_at (state_of
       -- what is under each number then
       pub record IsRedone : Type 0 where
         pub next : u.next ≡ t.next + length more
+        pub version : u.version ≡ t.version
         pub entries : (q : ℕ) → entry_of u.nodes q ≡ cond (leaves q) None (with_entries documents (entry_of t.nodes) q)
         pub named : (q : ℕ) → leaves q ≡ false → name_of u.nodes q ≡ with_names documents (name_of t.nodes) q
         pub lists : (d : ℕ) → kids_of u.nodes d ≡ told_at mount (numbers_from find t.next xs) (λ n. cond (leaves n) [] (told_at mount [] (kids_of t.nodes) n)) d
@@ -223,7 +224,7 @@ module _ (t : Inside) (h : IsShaped t) (mount : ℕ) (is : is_mount_at (state_of
             below-left (λ (e : Entry). not (is_gone mount xs e)) t.next (entry_of t.nodes) (entry_of u.nodes) leaves low-entry (λ q e found. ap not (sym (leaves-told q e found))) in
             let all : entries_below u.next (entry_of u.nodes) ≡ filter (λ (e : Entry). not (is_gone mount xs e)) (entries_below t.next (entry_of t.nodes)) ++ documents =
             ap (λ (k : ℕ). entries_below k (entry_of u.nodes)) far ∙ below-more t.next (entry_of u.nodes) documents follow ∙ ap (λ (es : List Entry). es ++ documents) first in
-            λ i. state_with (m.next i) (all i)
+            λ i. state_with (m.version i) (m.next i) (all i)
 
         pub clean-redone : (q : ℕ) → dirty_in (entry_of u.nodes q) ≡ dirty_in (entry_of t.nodes q)
         clean-redone q = ap dirty_in (m.entries q) ∙ (elim (leaves q) as (λ b. leaves q ≡ b → dirty_in (cond b None (with_entries documents (entry_of t.nodes) q)) ≡ dirty_in (entry_of t.nodes q)) [

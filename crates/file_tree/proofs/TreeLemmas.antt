@@ -7,7 +7,7 @@ use Rattle.std.proofs.Math.Bool.{or-false}
 use Rattle.std.proofs.lemmas.Bool.{ne_eqb}
 use Rattle.std.proofs.lemmas.Bool.Decides.{nat_tests}
 use Rattle.hac_model.specs.declared.limits.TheConstants.{NUMBERS_LIMIT}
-use Rattle.hac_model.proofs.LimitLemmas.{limits-within}
+use Rattle.hac_model.proofs.LimitLemmas.{limits-within, most-numbers}
 use Rattle.indexmap.specs.IndexMap.{IndexMap}
 use Rattle.hac_model.specs.Tree.Events.{changed_at, edited}
 use Rattle.hac_model.specs.Tree.Limits.{counts}
@@ -44,28 +44,28 @@ pub other-below : (next n : ℕ) → n < next → nat_eq next n ≡ false
 other-below next n low = ne_eqb next n (λ same. omega arith)
 
 -- a tree with other nodes that are no entries, ready for another change
-pub tree-readied : (t : Inside) → IsTree t → (u : Inside) → u.next ≡ t.next → ((n : ℕ) → entry_of u.nodes n ≡ entry_of t.nodes n) → ((n : ℕ) → n < t.next → name_of u.nodes n ≡ name_of t.nodes n) → ((dir : ℕ) → kids_of u.nodes dir ≡ kids_of t.nodes dir) →
+pub tree-readied : (t : Inside) → IsTree t → (u : Inside) → u.next ≡ t.next → u.version ≡ t.version → ((n : ℕ) → entry_of u.nodes n ≡ entry_of t.nodes n) → ((n : ℕ) → n < t.next → name_of u.nodes n ≡ name_of t.nodes n) → ((dir : ℕ) → kids_of u.nodes dir ≡ kids_of t.nodes dir) →
     ((n : ℕ) → n < t.next → has_node u.nodes n ≡ has_node t.nodes n) → HasSpare u.ready u.nodes u.next → u.counts ≡ t.counts →
     ((n : ℕ) → contains nat_cmp u.to_index n ≡ (is_dirty_at (state_of t).entries n || is_awaited t.next u.ready n)) → HasDocuments u.ready u.next u.documents.items → IsTree u
-tree-readied t h u next told names kids numbers spare same set documents =
-    let state : state_of u ≡ state_of t = state-same t (seen_of t) refl h.shaped u next told in
+tree-readied t h u next version told names kids numbers spare same set documents =
+    let state : state_of u ≡ state_of t = state-same t (seen_of t) refl h.shaped u next version told in
     record {
-      shaped = shaped-prepared t (seen_of t) refl h.shaped u next told names kids numbers spare;
+      shaped = shaped-prepared t (seen_of t) refl h.shaped u next version told names kids numbers spare;
       counts_are = same ∙ h.counts_are ∙ sym (ap counts state);
       dirty_are = λ n. set n ∙ (λ i. is_dirty_at (sym state i).entries n || is_awaited (sym next i) u.ready n);
       documents_are = documents;
     }
 
 -- the same where only the next number has another node
-pub tree-prepared : (t : Inside) → IsTree t → (u : Inside) → u.next ≡ t.next → ((n : ℕ) → entry_of u.nodes n ≡ entry_of t.nodes n) → ((n : ℕ) → nat_eq t.next n ≡ false → name_of u.nodes n ≡ name_of t.nodes n) → ((dir : ℕ) → kids_of u.nodes dir ≡ kids_of t.nodes dir) →
+pub tree-prepared : (t : Inside) → IsTree t → (u : Inside) → u.next ≡ t.next → u.version ≡ t.version → ((n : ℕ) → entry_of u.nodes n ≡ entry_of t.nodes n) → ((n : ℕ) → nat_eq t.next n ≡ false → name_of u.nodes n ≡ name_of t.nodes n) → ((dir : ℕ) → kids_of u.nodes dir ≡ kids_of t.nodes dir) →
     ((n : ℕ) → nat_eq t.next n ≡ false → has_node u.nodes n ≡ has_node t.nodes n) → HasSpare u.ready u.nodes u.next → u.counts ≡ t.counts →
     ((n : ℕ) → contains nat_cmp u.to_index n ≡ (is_dirty_at (state_of t).entries n || is_awaited t.next u.ready n)) → HasDocuments u.ready u.next u.documents.items → IsTree u
-tree-prepared t h u next told names kids numbers spare same set documents =
-    tree-readied t h u next told (λ n low. names n (other-below t.next n low)) kids (λ n low. numbers n (other-below t.next n low)) spare same set documents
+tree-prepared t h u next version told names kids numbers spare same set documents =
+    tree-readied t h u next version told (λ n low. names n (other-below t.next n low)) kids (λ n low. numbers n (other-below t.next n low)) spare same set documents
 
 -- numbers stay small
 pub next-small : (t : Inside) → IsTree t → t.next ≤ NUMBERS_LIMIT
-next-small t h = let low : nat_lt NUMBERS_LIMIT t.next ≡ false = (limits-within (state_of t) h.shaped.layout.limits).numbers in grind (arith, nat_tests, low)
+next-small t h = let low : nat_lt NUMBERS_LIMIT t.next ≡ false = most-numbers (state_of t) (limits-within (state_of t) h.shaped.layout.limits) in grind (arith, nat_tests, low)
 
 -- A tree that is ready for nothing.
 
@@ -101,10 +101,10 @@ module _ (t : Inside) (s : Seen) (view : seen_of t ≡ s) (h : IsTree t) where
   set-dirty none n = set-has n ∙ ap (λ r. is_dirty_at s.state.entries n || is_awaited s.state.next r n) none ∙ or-false (is_dirty_at s.state.entries n)
 
   -- the body of an entry was edited
-  pub tree-edited : (u : Inside) (m : ℕ) (edit : Body → Body) → u.next ≡ t.next → u.ready ≡ Nothing → ((n : ℕ) → entry_of u.nodes n ≡ touched_at m (edited edit) (entry_of t.nodes) n) → ((n : ℕ) → name_of u.nodes n ≡ name_of t.nodes n) →
+  pub tree-edited : (u : Inside) (m : ℕ) (edit : Body → Body) → u.next ≡ t.next → u.version ≡ t.version → u.ready ≡ Nothing → ((n : ℕ) → entry_of u.nodes n ≡ touched_at m (edited edit) (entry_of t.nodes) n) → ((n : ℕ) → name_of u.nodes n ≡ name_of t.nodes n) →
       ((dir : ℕ) → kids_of u.nodes dir ≡ kids_of t.nodes dir) → ((n : ℕ) → has_node u.nodes n ≡ has_node t.nodes n) → IsLayout (changed_at s.state m (edited edit)) → u.counts ≡ counts (changed_at s.state m (edited edit)) →
       ((n : ℕ) → contains nat_cmp u.to_index n ≡ is_dirty_at (changed_at s.state m (edited edit)).entries n) → Became u (changed_at s.state m (edited edit))
-  tree-edited u m edit next ready told names kids numbers layout same dirty =
-      let seen : seen_of u ≡ record { state = changed_at s.state m (edited edit); ready = Nothing } = λ i. record { state = state-changed t s view h.shaped u m (edited edit) next told i; ready = ready i } in
+  tree-edited u m edit next version ready told names kids numbers layout same dirty =
+      let seen : seen_of u ≡ record { state = changed_at s.state m (edited edit); ready = Nothing } = λ i. record { state = state-changed t s view h.shaped u m (edited edit) next version told i; ready = ready i } in
       let spare : HasSpare u.ready u.nodes u.next = subst (λ r. HasSpare r u.nodes u.next) (sym ready) tt in
-      (seen, became u (changed_at s.state m (edited edit)) seen (shaped-edited t s view h.shaped u m edit next told names kids numbers layout spare) same dirty)
+      (seen, became u (changed_at s.state m (edited edit)) seen (shaped-edited t s view h.shaped u m edit next version told names kids numbers layout spare) same dirty)

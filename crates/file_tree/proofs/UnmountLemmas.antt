@@ -50,6 +50,7 @@ module _ (t : Inside) (h : IsShaped t) (mount : ℕ) (is : is_mount_at (state_of
     -- what is under each number then
     pub record IsUnmounted : Type 0 where
       pub next : u.next ≡ t.next
+      pub version : u.version ≡ t.version
       pub entries : (q : ℕ) → entry_of u.nodes q ≡ told_at mount None emptied q
       pub named : (q : ℕ) → nat_eq mount q ≡ false → inside q ≡ false → name_of u.nodes q ≡ name_of t.nodes q
       pub lists : (d : ℕ) → kids_of u.nodes d ≡ told_at mount [] (λ n. cond (inside n) [] (told_at mount [] cut n)) d
@@ -89,7 +90,7 @@ module _ (t : Inside) (h : IsShaped t) (mount : ℕ) (is : is_mount_at (state_of
           (λ q e found. ap not (told q e found)) in
           let all : entries_below u.next (entry_of u.nodes) ≡ filter (λ (e : Entry). not (is_of_mount mount e)) (entries_below t.next (entry_of t.nodes)) =
           ap (λ (k : ℕ). entries_below k (entry_of u.nodes)) m.next ∙ left in
-          λ i. state_with (m.next i) (all i)
+          λ i. state_with (m.version i) (m.next i) (all i)
 
       pub clean-unmounted : (q : ℕ) → dirty_in (entry_of u.nodes q) ≡ dirty_in (entry_of t.nodes q)
       clean-unmounted q = ap dirty_in (m.entries q) ∙ (elim (same-or-not mount q) [

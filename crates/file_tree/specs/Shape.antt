@@ -21,7 +21,7 @@ use Rattle.file_tree.specs.declared.ready.Ready.TheVariants.{Nothing, Add, Link,
 use Rattle.file_tree.specs.declared.tree.Tree.TheInside.{Inside}
 
 abbrev pub state_of : Inside → State
-state_of tree = record { next = tree.next; entries = entries_below tree.next (entry_of tree.nodes); sessions = [] }
+state_of tree = record { version = tree.version; next = tree.next; entries = entries_below tree.next (entry_of tree.nodes); sessions = [] }
 
 abbrev pub seen_of : Inside → Seen
 seen_of tree = record { state = state_of tree; ready = tree.ready }

@@ -18,7 +18,7 @@ use crate::nodes::{self, Content, Nodes, Shown};
 use crate::ready::Ready;
 use crate::targets::{Target, read_word};
 use crate::tree::Tree;
-use hac_model::{Body, Counts, Entry, Memory, Number, State, Text};
+use hac_model::{Body, Counts, Entry, Memory, Number, State, Text, Version};
 use indexmap::IndexMap;
 use std::alloc::Global;
 use std::collections::BTreeSet;
@@ -43,11 +43,17 @@ impl Tree {
         ensures { IfOk result (λ tree. tree ≡
             record { state = bare state; ready = Ready.Nothing }) }
     {
-        let State { next, entries, .. } = state;
+        let State {
+            version,
+            next,
+            entries,
+            ..
+        } = state;
         let mut loading = prepared(alloc, next, entries.as_slice())?;
         match loading.place_all(alloc, entries.into_vec()) {
             Ok(()) => Ok(Tree {
                 alloc,
+                version,
                 next,
                 nodes: loading.nodes,
                 documents: Children::new(alloc),
@@ -91,10 +97,15 @@ fn prepare_all(alloc: Global, nodes: &mut Nodes, entries: &[Entry]) -> Result<()
 }
 
 impl Loading {
-    /// Makes the prepared nodes the entries that they are for.
+    /// Makes the prepared nodes the entries that they are for. They fit in a store of version 2, as
+    /// those of any version do.
     fn place_all(&mut self, alloc: Global, entries: Vec<Entry>) -> Result<(), Memory>
-        requires layout { IsLayout (record
-            { next = self.old.next; entries = entries.items; sessions = [] }) }
+        requires layout { IsLayout (record {
+          version = Version.Two;
+          next = self.old.next;
+          entries = entries.items;
+          sessions = [];
+        }) }
         requires prepared { IsPrepared self.old.next entries.items self.old }
         ensures { OnOk result (IsLoaded self.old.next entries.items self.new) }
     {

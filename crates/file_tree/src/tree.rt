@@ -6,9 +6,9 @@ ghost use Rattle.hac_model.specs.Tree.Events.{is_bare, next_dirty};
 ghost use Rattle.hac_model.specs.Tree.Limits.{counts};
 ghost use Rattle.hac_model.specs.Tree.Links.{is_item, parent_of, query_at, shown_of, space_at};
 ghost use Rattle.hac_model.specs.Tree.Listing.{children};
-ghost use Rattle.hac_model.specs.Tree.{body_at, child, empty, entry_at, is_directory_at};
+ghost use Rattle.hac_model.specs.Tree.{body_at, child, entry_at, is_directory_at};
 ghost use Rattle.hac_model.specs.Tree.{is_document_at, is_file_at, is_made_directory, is_mount_at};
-ghost use Rattle.hac_model.specs.Tree.{is_symlink_at, target_in, text_in};
+ghost use Rattle.hac_model.specs.Tree.{is_symlink_at, raised, root_alone, target_in, text_in};
 ghost use Rattle.hac_model.specs.Tree.Valid.{IsLayout};
 ghost use Rattle.file_tree.specs.Answers.{entry_kind_at, entry_kind, is_dirty_at, next_from};
 ghost use Rattle.file_tree.specs.Nodes.{body_of};
@@ -18,7 +18,7 @@ use crate::nodes::{self, Content, Nodes, children_at};
 use crate::ready::Ready;
 use crate::searching::named;
 use crate::shares::of_root;
-use hac_model::{Counts, Memory, Name, Number, Query, Text};
+use hac_model::{Counts, Memory, Name, Number, Query, Text, Version};
 use indexmap::IndexMap;
 use std::alloc::Global;
 use std::collections::BTreeSet;
@@ -28,6 +28,8 @@ use std::marker::Model;
 #[derive(Drop)]
 pub struct Tree {
     pub(crate) alloc: Global,
+    // The version of the store.
+    pub(crate) version: Version,
     // The number that the next entry takes.
     pub(crate) next: Number,
     // The root, the entries, and what was prepared.
@@ -73,14 +75,16 @@ pub enum EntryKind {
 }
 
 impl Tree {
-    /// The root alone.
-    pub fn new(alloc: Global) -> Result<Tree, Memory>
-        ensures { IfOk result (λ tree. tree ≡ record { state = empty; ready = Ready.Nothing }) }
+    /// The root alone, in a store of a version.
+    pub fn new(alloc: Global, version: Version) -> Result<Tree, Memory>
+        ensures { IfOk result (λ tree. tree ≡
+            record { state = root_alone version; ready = Ready.Nothing }) }
     {
         let mut nodes = IndexMap::new(alloc);
         nodes::prepare(alloc, &mut nodes, Number::ROOT)?;
         Ok(Tree {
             alloc,
+            version,
             next: Number::new(1),
             nodes,
             documents: Children::new(alloc),
@@ -88,6 +92,20 @@ impl Tree {
             counts: of_root(),
             to_index: BTreeSet::new(alloc),
         })
+    }
+
+    /// The version of the store.
+    pub fn version(&self) -> Version
+        ensures { result ≡ self.now.state.version }
+    {
+        self.version
+    }
+
+    /// The state in a store of version 2. What is ready stays so.
+    pub fn raise(&mut self)
+        ensures { self.new ≡ record { state = raised self.old.state; ready = self.old.ready } }
+    {
+        self.version = Version::Two;
     }
 
     /// The number that the next entry takes.

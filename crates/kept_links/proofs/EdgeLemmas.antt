@@ -1,15 +1,15 @@
 -- Where judging begins nowhere, what depends on what stays as it was.
 use Rattle.std.proofs.Common.{◌≡◌, ℕ, Bool, true, false, List, [], ◌∷◌, ◌++◌, ap, arith, eq-eqb, refl, sym, ◌∙◌}
-use Rattle.std.proofs.lemmas.Bool.{and_parts, eqb-true}
-use Rattle.std.specs.Prelude.{◌==◌, ◌&&◌, ◌||◌, filter, if◌then◌else◌, length, Option, Some, None, IsTrue, is_some}
+use Rattle.std.proofs.lemmas.Bool.{eqb-true}
+use Rattle.std.specs.Prelude.{◌==◌, ◌||◌, filter, if◌then◌else◌, length, Option, Some, None, IsTrue, is_some}
 use Rattle.std.specs.Option.{option_map, option_map_or}
 use Rattle.hac_model.specs.Query.Formula.{Formula}
 use Rattle.hac_model.specs.Tree.Depends.{depends, named_in}
-use Rattle.hac_model.specs.Tree.Events.{accepted, apply, is_clear, is_placed, is_possible}
+use Rattle.hac_model.specs.Tree.Events.{accepted, apply, is_possible}
 use Rattle.hac_model.specs.Tree.Facts.{Facts, edges_to, facts_after, facts_at, facts_in, facts_of, facts_with, facts_without, no_facts, put_at, with_mark}
 use Rattle.hac_model.specs.Tree.Limits.{passed_limit}
 use Rattle.hac_model.specs.Tree.Links.{is_item, is_semantic, lenders, parent_of, query_at}
-use Rattle.hac_model.specs.Tree.Mounting.{answers_to, are_documents, are_told, is_gone, is_of_mount, is_such_at, synced}
+use Rattle.hac_model.specs.Tree.Mounting.{answers_to, is_gone, is_of_mount, is_such_at}
 use Rattle.hac_model.specs.Tree.Mounts.{terms_to_ask}
 use Rattle.hac_model.specs.Tree.Touched.{begins, is_the}
 use Rattle.hac_model.specs.Tree.Valid.{IsValid}
@@ -24,7 +24,7 @@ use Rattle.hac_model.specs.declared.states.State.{State}
 use Rattle.hac_model.proofs.AskLemmas.{item-no_directory}
 use Rattle.hac_model.proofs.FactLemmas.{edges-told, facts-law}
 use Rattle.hac_model.proofs.TreeLemmas.{entry_at-next}
-use Rattle.hac_model.proofs.LayoutLemmas.{sumount-parts}
+use Rattle.hac_model.proofs.LayoutLemmas.{ssync-parts, sumount-parts}
 use Rattle.hac_model.proofs.ValidLemmas.{accepted-parts}
 use Rattle.reeval.proofs.AskOwes.{marked-lenders}
 use Rattle.reeval.proofs.EventLemmas.{permanent-told}
@@ -101,10 +101,7 @@ module _ (s : State) (h : IsValid s) where
   possible event ok = (accepted-parts (is_possible s event) (passed_limit (apply s event)) ok).0
 
   sync-mount : (mount : ℕ) (documents told : List (List ℕ)) → IsTrue (accepted s (event.Ssync mount documents told)) → is_mount_at s.entries mount ≡ true
-  sync-mount mount documents told ok =
-      let placed = (and_parts (is_clear s (event.Ssync mount documents told)) (is_placed s (event.Ssync mount documents told)) (possible (event.Ssync mount documents told) ok)).1 in
-      let told_of : Bool = are_told (synced s mount (answers_to (terms_to_ask s.entries) told) documents) mount (terms_to_ask s.entries) told in
-      (and_parts (is_mount_at s.entries mount) (are_documents documents) (and_parts (is_mount_at s.entries mount && are_documents documents) told_of placed).0).0
+  sync-mount mount documents told ok = (ssync-parts s mount documents told (possible (event.Ssync mount documents told) ok)).0
 
   event-edges : (event : Event) → IsTrue (accepted s event) → ((dir : ℕ) → begins s event dir ≡ false) → (n : ℕ) → (facts_of s n).edges ≡ (facts_after event s (facts_of s) n).edges
   event-edges (event.Smkdir dir name asked told) ok never n =

@@ -2,7 +2,7 @@
 use Rattle.std.proofs.Common.{◌≡◌, ℕ, zero, suc, true, List, [], ◌∷◌, ap, arith, refl, sym, subst, ◌∙◌}
 use Rattle.std.specs.Prelude.{Option, None, IsTrue, replicate, unwrap_or}
 use Rattle.hac_model.specs.Laws.{AllHappen}
-use Rattle.hac_model.specs.Tree.{empty}
+use Rattle.hac_model.specs.Tree.{raised, root_alone}
 use Rattle.hac_model.specs.Tree.Events.{accepted, apply, apply_all}
 use Rattle.hac_model.specs.Tree.Sessions.{is_stored}
 use Rattle.hac_model.specs.declared.events.Event.{Event}
@@ -10,6 +10,7 @@ use Rattle.hac_model.specs.declared.events.Event.TheVariants.{Mkdir, NewFile, Re
 use Rattle.hac_model.specs.Tree.Links.{links}
 use Rattle.hac_model.specs.Tree.Valid.{IsValid}
 use Rattle.hac_model.specs.declared.states.State.{State}
+use Rattle.hac_model.specs.declared.versions.Version.{Version}
 use Rattle.link_kinds.specs.Kinds.{Lists}
 use Rattle.kept_state.specs.After.{is_quiet}
 use Rattle.link_kinds.specs.Seen.{IsEmpty, Known, LinkListsRise, SameKinds}
@@ -20,6 +21,7 @@ use Rattle.reeval.specs.Told.{news_on, told}
 use Rattle.reeval.specs.declared.verdicts.Change.{Change}
 use Rattle.reeval.proofs.LinkedLemmas.{links-tell, links-told}
 use Rattle.hac_model.proofs.AcyclicLemmas.{apply-valid}
+use Rattle.hac_model.proofs.RaisedLemmas.{links-raised}
 use Rattle.kept_state.specs.Seen.{Seen}
 use Rattle.reindex.specs.Past.{Lead}
 use Rattle.reindex.specs.Ways.{IsWayOf}
@@ -29,9 +31,9 @@ use Rattle.kept_links.specs.declared.linked.LinkedState.TheInside.{Inside}
 use Rattle.kept_links.proofs.TaskLemmas.{nothing-new, way-still}
 
 -- the root alone has none
-pub none-kept : (known : Known) → IsEmpty known → AreLinksOf empty known
+pub none-kept : (version : Version) (known : Known) → IsEmpty known → AreLinksOf (root_alone version) known
 unfolding links
-none-kept known none = record {
+none-kept version known none = record {
   found = λ dir. ap (λ (lists : Lists). lists.transient) (none dir);
   lent = λ dir. ap (λ (lists : Lists). lists.lent) (none dir);
 }
@@ -54,8 +56,12 @@ nothing-wanted known delta none = subst (λ (changes : List Change). HasRoom kno
 -- The way to all semantic directories.
 
 -- none is there beside the root alone
-pub way-root : (way : Way) → way.stops.items ≡ [] → IsIndexOf [] way.index → IsWayOf empty way
-way-root way none index = record { order = []; ordered = tt; all = λ dir some. absurd (some refl); stops = none; index = index; lends = λ not_any dir. refl }
+pub way-root : (version : Version) (way : Way) → way.stops.items ≡ [] → IsIndexOf [] way.index → IsWayOf (root_alone version) way
+way-root version way none index = record { order = []; ordered = tt; all = λ dir some. absurd (some refl); stops = none; index = index; lends = λ not_any dir. refl }
+
+-- a state that is raised has the same one
+way-raised : (s : State) (way : Way) → IsWayOf s way → IsWayOf (raised s) way
+way-raised s way is = record { order = is.order; ordered = is.ordered; all = is.all; stops = is.stops; index = is.index; lends = is.lends }
 
 -- what is ready for nothing leaves it
 pub nothing-next : (s : State) (ready : List Event) (way : Way) (next : Option Way) → ready ≡ [] → next ≡ None → IsWayOf s way → IsWayOf (apply_all s ready) (unwrap_or next way)
@@ -80,6 +86,21 @@ kept-none inside none are way no_change same = record {
   way = way;
   next = nothing-next inside.kept.state inside.kept.ready inside.way inside.next none same way;
 }
+
+-- and a state that is raised, which has the same links
+links-of-raised : (s : State) (known : Known) → AreLinksOf s known → AreLinksOf (raised s) known
+links-of-raised s known are = record {
+  found = λ dir. are.found dir ∙ (λ i. (sym (links-raised s) i dir).found);
+  lent = λ dir. are.lent dir ∙ (λ i. (sym (links-raised s) i dir).lent);
+}
+
+pub kept-raised : (s : State) (inside : Inside) → inside.kept ≡ record { state = raised s; ready = [] } → AreLinksOf s inside.found → IsWayOf s inside.way → inside.delta.items ≡ [] → inside.next ≡ None → AreLinksKept inside
+kept-raised s inside is are way no_change same =
+    let state : inside.kept.state ≡ raised s = ap (λ (seen : Seen). seen.state) is in
+    kept-none inside (ap (λ (seen : Seen). seen.ready) is)
+    (subst (λ (t : State). AreLinksOf t inside.found) (sym state) (links-of-raised s inside.found are))
+    (subst (λ (t : State). IsWayOf t inside.way) (sym state) (way-raised s inside.way way))
+    no_change same
 
 -- what was prepared leaves the state, so the links and the way are those of it
 pub links-stay : (s : State) (kept : Seen) (found : Known) (ready : List Event) → kept ≡ record { state = s; ready = ready } → AreLinksOf s found → AreLinksOf kept.state found

@@ -5,12 +5,12 @@ ghost use Rattle.hac_model.specs.Tree.Events.{accepted, apply, apply_all};
 ghost use Rattle.hac_model.specs.Tree.Limits as limits;
 ghost use Rattle.hac_model.specs.Tree.Links.{atom};
 ghost use Rattle.hac_model.specs.Tree.Sessions.{is_stored};
-ghost use Rattle.hac_model.specs.Tree.{empty};
+ghost use Rattle.hac_model.specs.Tree.{raised, root_alone};
 ghost use Rattle.kept_state.specs.After.{is_quiet};
 ghost use Rattle.reeval.specs.Settled.{AreLinksOf};
 
 use crate::news::prepared_news;
-use hac_model::{Counts, Event, Memory, Name, Number, Term};
+use hac_model::{Counts, Event, Memory, Name, Number, Term, Version};
 use hac_words::has_term;
 use kept_state::KeptState;
 use link_kinds::Links;
@@ -49,12 +49,13 @@ impl Model for LinkedState {
 }
 
 impl LinkedState {
-    /// The root alone.
-    pub fn new(alloc: Global) -> Result<LinkedState, Memory>
-        ensures { IfOk result (λ linked. linked ≡ record { state = empty; ready = [] }) }
+    /// The root alone, in a store of a version.
+    pub fn new(alloc: Global, version: Version) -> Result<LinkedState, Memory>
+        ensures { IfOk result (λ linked. linked
+            ≡ record { state = root_alone version; ready = [] }) }
     {
         Ok(LinkedState {
-            kept: KeptState::new(alloc)?,
+            kept: KeptState::new(alloc, version)?,
             found: Links::new(alloc)?,
             way: Way {
                 stops: Vec::new(alloc),
@@ -162,6 +163,16 @@ impl LinkedState {
         self.kept.prepare_steps(count);
         self.delta = delta;
         Ok(())
+    }
+
+    /// The state in a store of version 2, with the same links. A change that was prepared is
+    /// dropped.
+    pub fn raise(&mut self)
+        ensures { self.new ≡ record { state = raised self.old.state; ready = [] } }
+    {
+        self.delta.clear();
+        self.next = None;
+        self.kept.raise();
     }
 
     /// Applies the prepared events. This takes no memory, and can't fail.

@@ -4,13 +4,13 @@ ghost use Rattle.hac_model.specs.Tree.Events.{accepted, apply};
 ghost use Rattle.hac_model.specs.Tree.Limits as limits;
 ghost use Rattle.hac_model.specs.Tree.Links.{has, transient_at};
 ghost use Rattle.hac_model.specs.Tree.Sessions.{is_stored};
-ghost use Rattle.hac_model.specs.Tree.{empty};
+ghost use Rattle.hac_model.specs.Tree.{root_alone};
 ghost use Rattle.reeval.specs.Settled.{AreLinksOf};
 ghost use Rattle.reindex.specs.Ways.{IsWayOf};
 
 use crate::items::begin;
 use crate::linked::LinkedState;
-use hac_model::{Counts, Event, Memory, Number};
+use hac_model::{Counts, Event, Memory, Number, Version};
 use kept_state::KeptState;
 use link_kinds::Links;
 use reindex::{Way, finds, links_of, way_of};
@@ -41,12 +41,12 @@ impl Model for UnlinkedState {
 }
 
 impl UnlinkedState {
-    /// The root alone.
-    pub fn new(alloc: Global) -> Result<UnlinkedState, Memory>
-        ensures { IfOk result (λ unlinked. unlinked ≡ empty) }
+    /// The root alone, in a store of a version.
+    pub fn new(alloc: Global, version: Version) -> Result<UnlinkedState, Memory>
+        ensures { IfOk result (λ unlinked. unlinked ≡ root_alone version) }
     {
         Ok(UnlinkedState {
-            kept: KeptState::new(alloc)?,
+            kept: KeptState::new(alloc, version)?,
             way: None,
         })
     }

@@ -10,7 +10,7 @@ use Rattle.hac_model.specs.Script.SpaceNames.{is_space_name}
 use Rattle.hac_model.specs.Tree.Asking.{with_told}
 use Rattle.hac_model.specs.Tree.Limits.{are_answers_few}
 use Rattle.hac_model.specs.Tree.Links.{answers_at}
-use Rattle.hac_model.specs.Tree.Mounting.{answers_to, are_documents, are_told, forgetting_such, is_of_mount, is_such_at, is_told, mounted, synced, without_such}
+use Rattle.hac_model.specs.Tree.Mounting.{answers_to, are_documents, are_documents_few, are_told, forgetting_such, is_of_mount, is_such_at, is_told, mounted, synced, without_such}
 use Rattle.hac_model.specs.Tree.Mounts.{terms_to_ask}
 use Rattle.hac_model.specs.Tree.Valid.{IsValid, NumbersRise}
 use Rattle.hac_model.specs.Tree.{answers_in, entry_at, is_mount_at}
@@ -183,13 +183,15 @@ module _ (s : State) (h : IsValid s) (e : Event) (placed : is_placed s e ≡ tru
 
   pub few-mounting : (dir : ℕ) (name space : List ℕ) (documents told : List (List ℕ)) → e ≡ Smount dir name space documents told → are_few_then s.entries [] told ≡ few_after e
   few-mounting dir name space documents told is =
-      let fits = and_parts (is_free s dir name && is_space_name space && are_documents documents) _ (sym (ap (is_placed s) is) ∙ placed) in
+      let short = and_parts _ (are_documents_few s.version documents) (sym (ap (is_placed s) is) ∙ placed) in
+      let fits = and_parts (is_free s dir name && is_space_name space && are_documents documents) _ short.0 in
       let even = even-told (mounted s dir name space (answers_to (terms_to_ask s.entries) told) documents) s.next told fits.1 in
       few-mounted s dir name space (terms_to_ask s.entries) told documents even ∙ sym (ap few_after is)
 
   pub few-syncing : (mount : ℕ) (documents told : List (List ℕ)) → e ≡ Ssync mount documents told → are_few_then s.entries (answers_at s mount) told ≡ few_after e
   few-syncing mount documents told is =
-      let fits = and_parts (is_mount_at s.entries mount && are_documents documents) _ (sym (ap (is_placed s) is) ∙ placed) in
+      let short = and_parts _ (are_documents_few s.version documents) (sym (ap (is_placed s) is) ∙ placed) in
+      let fits = and_parts (is_mount_at s.entries mount && are_documents documents) _ short.0 in
       let there = and_parts (is_mount_at s.entries mount) (are_documents documents) fits.0 in
       let even = even-told (synced s mount (answers_to (terms_to_ask s.entries) told) documents) mount told fits.1 in
       few-synced s mount (terms_to_ask s.entries) told documents h.layout.numbers there.0 even ∙ sym (ap few_after is)

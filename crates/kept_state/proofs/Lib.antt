@@ -22,3 +22,4 @@ pub mod MarkedLemmas
 pub mod ToldNextLemmas
 pub mod AfterLemmas
 pub mod PartsLemmas
+pub mod RaisedLemmas

@@ -6,7 +6,7 @@ use Rattle.hac_model.specs.Tree.Bare.{bare, bare_body}
 use Rattle.hac_model.specs.Tree.Events.{apply, can_have_mark, dirty, edited, is_bare, is_free, is_inside, is_made_holder, may_ask}
 use Rattle.hac_model.specs.Query.Formula.{Formula}
 use Rattle.hac_model.specs.Tree.Limits.{counts, is_text}
-use Rattle.hac_model.specs.Tree.Mounting.{are_documents}
+use Rattle.hac_model.specs.Tree.Mounting.{are_documents, are_documents_few}
 use Rattle.hac_model.specs.Tree.Mounts.{terms_to_ask}
 use Rattle.hac_model.specs.Tree.Links.{can_be_added, is_item, is_semantic, parent_of, query_at, shown_of}
 use Rattle.hac_model.specs.Run.Resolving.{resolved_for}
@@ -166,12 +166,14 @@ module _ (s t : State) (bares : bare s ≡ bare t) where
   same-seated (Rm entry) h = sym (same-leaf entry) ∙ h
   same-seated (Rmdir dir) h = sym (λ i. same-holder dir i && same-bare dir i) ∙ h
   same-seated (Smount dir name space documents told) h =
-      let well = and_parts (is_free s dir name && is_space_name space && are_documents documents) _ h in
+      let short = and_parts _ (are_documents_few s.version documents) h in
+      let well = and_parts (is_free s dir name && is_space_name space && are_documents documents) _ short.0 in
       let named = and_parts (is_free s dir name && is_space_name space) (are_documents documents) well.0 in
       let free = and_parts (is_free s dir name) (is_space_name space) named.0 in
       and_from (is_free t dir name) (are_documents documents) (sym (same-free dir name) ∙ free.0) named.1
   same-seated (Ssync mount documents told) h =
-      let well = and_parts (is_mount_at s.entries mount && are_documents documents) _ h in
+      let short = and_parts _ (are_documents_few s.version documents) h in
+      let well = and_parts (is_mount_at s.entries mount && are_documents documents) _ short.0 in
       let there = and_parts (is_mount_at s.entries mount) (are_documents documents) well.0 in
       and_from (is_mount_at t.entries mount) (are_documents documents) (sym (same-mount mount) ∙ there.0) there.1
   same-seated (Sumount mount) h = sym (same-mount mount) ∙ h

@@ -9,7 +9,7 @@ ghost use Rattle.hac_model.specs.Tree.Limits as limits;
 ghost use Rattle.hac_model.specs.Tree.Limits.{are_answers_few, counts};
 ghost use Rattle.hac_model.specs.Tree.Links.{answers_at, has, kept_at, lenders, parent_of};
 ghost use Rattle.hac_model.specs.Tree.Mounts.{is_kept, terms_to_ask};
-ghost use Rattle.hac_model.specs.Tree.{empty, path_of};
+ghost use Rattle.hac_model.specs.Tree.{path_of, raised, root_alone};
 ghost use Rattle.hac_model.specs.Tree.Sessions.{are_few, is_busy, is_stored, least_name};
 ghost use Rattle.hac_model.specs.Tree.Sessions.{sessions_with, stands_in, visitors};
 ghost use Rattle.hac_model.specs.Tree.Valid.{IsValid};
@@ -28,7 +28,9 @@ use crate::terms::{terms_to_ask, unanswered};
 use crate::{edges, lenders, room, sessions};
 use dep_graph::Graph;
 use file_tree::Tree;
-use hac_model::{Answer, Counts, Event, Kind, Mark, Memory, Name, Number, Path, Query, Seq, Term};
+use hac_model::{
+    Answer, Counts, Event, Kind, Mark, Memory, Name, Number, Path, Query, Seq, Term, Version,
+};
 use link_kinds::Links;
 use std::alloc::Global;
 use std::marker::Model;
@@ -56,12 +58,13 @@ impl Model for KeptState {
 }
 
 impl KeptState {
-    /// The root alone.
-    pub fn new(alloc: Global) -> Result<KeptState, Memory>
-        ensures { IfOk result (λ kept. kept ≡ record { state = empty; ready = [] }) }
+    /// The root alone, in a store of a version.
+    pub fn new(alloc: Global, version: Version) -> Result<KeptState, Memory>
+        ensures { IfOk result (λ kept. kept
+            ≡ record { state = root_alone version; ready = [] }) }
     {
         Ok(KeptState {
-            parts: Parts::new(alloc)?,
+            parts: Parts::new(alloc, version)?,
             ready: Ready::Nothing,
         })
     }
@@ -287,9 +290,11 @@ impl KeptState {
     /// Whether a session may stand in a directory: no more sessions than may then stand elsewhere
     /// than in the root.
     pub fn has_place_for(&self, session: &Name, dir: Number) -> bool
-        ensures { result ≡ are_few (sessions_with session.now dir self.now.state.sessions) }
+        ensures { result ≡ are_few self.now.state.version
+            (sessions_with session.now dir self.now.state.sessions) }
     {
-        sessions::has_place_for(self.parts.sessions.as_slice(), session, dir)
+        let version = self.parts.tree.version();
+        sessions::has_place_for(version, self.parts.sessions.as_slice(), session, dir)
     }
 
     /// How much the state would hold after an event. What it refers to is in the state; it may
@@ -367,6 +372,14 @@ impl KeptState {
         ensures { self.new ≡ record { state = self.old.state; ready = replicate count Event.Step } }
     {
         self.ready.set(Ready::Steps(count));
+    }
+
+    /// The state in a store of version 2. A change that was prepared is dropped.
+    pub fn raise(&mut self)
+        ensures { self.new ≡ record { state = raised self.old.state; ready = [] } }
+    {
+        self.ready.set(Ready::Nothing);
+        self.parts.tree.raise();
     }
 
     /// Applies the prepared events. This takes no memory, and can't fail.

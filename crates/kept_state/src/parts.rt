@@ -1,7 +1,7 @@
 //! A tree with the marks of its semantic directories, the answers of its mounts, what depends on
 //! what, and its sessions.
 ghost use Rattle.std.specs.Prelude.{◌≡◌, IfOk, IsTrue, OnOk, length};
-ghost use Rattle.hac_model.specs.Tree.{empty};
+ghost use Rattle.hac_model.specs.Tree.{root_alone};
 ghost use Rattle.hac_model.specs.Tree.Asking.{are_all_told};
 ghost use Rattle.hac_model.specs.Tree.Mounts.{terms_to_ask};
 ghost use Rattle.hac_model.specs.Tree.Links.{query_at};
@@ -16,7 +16,7 @@ use crate::lenders::{lenders, marked};
 use crate::terms::{answers_to, terms_to_ask};
 use dep_graph::{Graph, NewEdges};
 use file_tree::Tree;
-use hac_model::{Mark, Memory, Number, Query, Seq, Session};
+use hac_model::{Mark, Memory, Number, Query, Seq, Session, Version};
 use link_kinds::Links;
 use std::alloc::Global;
 
@@ -38,12 +38,12 @@ pub struct Parts {
 }
 
 impl Parts {
-    /// The root alone.
-    pub fn new(alloc: Global) -> Result<Parts, Memory>
-        ensures empty { IfOk result (λ kept. state_of kept ≡ empty) }
+    /// The root alone, in a store of a version.
+    pub fn new(alloc: Global, version: Version) -> Result<Parts, Memory>
+        ensures root { IfOk result (λ kept. state_of kept ≡ root_alone version) }
         ensures linked { IfOk result (λ kept. IsLinked kept) }
     {
-        let tree = Tree::new(alloc)?;
+        let tree = Tree::new(alloc, version)?;
         let marks = Links::new(alloc)?;
         Ok(Parts {
             tree,

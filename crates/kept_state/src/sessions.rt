@@ -3,7 +3,7 @@ ghost use Rattle.std.specs.Prelude.{◌≡◌, IfOk};
 ghost use Rattle.hac_model.specs.Tree.Sessions.{are_few, is_busy, least_name, sessions_with};
 ghost use Rattle.hac_model.specs.Tree.Sessions.{lesser_name, stands_in, visitors};
 
-use hac_model::{Memory, Name, Number, SESSIONS_LIMIT, Session};
+use hac_model::{Memory, Name, Number, Session, Version};
 use std::alloc::Global;
 
 /// The directory in which a session stands.
@@ -56,16 +56,13 @@ fn lesser(name: Name, other: Name) -> Name
     if other < name { other } else { name }
 }
 
-/// Whether no more sessions than may stand elsewhere than in the root, once one stands in a
-/// directory.
-pub fn has_place_for(sessions: &[Session], name: &Name, dir: Number) -> bool
-    ensures { result ≡ are_few (sessions_with name.now dir sessions.now) }
+/// Whether no more sessions than may in a store of a version stand elsewhere than in the root, once
+/// one stands in a directory.
+pub fn has_place_for(version: Version, sessions: &[Session], name: &Name, dir: Number) -> bool
+    ensures { result ≡ are_few version (sessions_with name.now dir sessions.now) }
 {
-    let mut places: u64 = if dir == Number::ROOT {
-        SESSIONS_LIMIT
-    } else {
-        SESSIONS_LIMIT - 1
-    };
+    let most = version.sessions_limit();
+    let mut places: u64 = if dir == Number::ROOT { most } else { most - 1 };
     'sessions: for session in sessions {
         if session.name != *name {
             if places == 0 {

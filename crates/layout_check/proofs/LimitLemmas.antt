@@ -41,19 +41,19 @@ bounded_counts s = record (counts s) { bytes = bounded (text_size s.entries) }
 bounded-passes : (bytes : ℕ) → nat_lt TEXTS_LIMIT (bounded bytes) ≡ nat_lt TEXTS_LIMIT bytes
 bounded-passes bytes = grind (arith, nat_tests)
 
-bounded-first : (s : State) → first_passed (layout_limits (bounded_counts s)) ≡ first_passed (layout_limits (counts s))
+bounded-first : (s : State) → first_passed (layout_limits s.version (bounded_counts s)) ≡ first_passed (layout_limits s.version (counts s))
 unfolding first_passed
 bounded-first s = rw (bounded-passes (text_size s.entries)) refl
 
 -- bounded counts exceed a limit just where the state does
 pub limits-told :
     (s : State) →
-    (are_kept (layout_limits (bounded_counts s)) && are_kept (answer_limits (bounded_counts s)))
+    (are_kept (layout_limits s.version (bounded_counts s)) && are_kept (answer_limits s.version (bounded_counts s)))
     ≡ is_none (passed_limit s)
 unfolding passed_limit
 limits-told s =
-    ap (λ o. is_none o && is_none (first_passed (answer_limits (counts s)))) (bounded-first s)
-    ∙ sym (none-append (layout_limits (counts s)) (answer_limits (counts s)))
+    ap (λ o. is_none o && is_none (first_passed (answer_limits s.version (counts s)))) (bounded-first s)
+    ∙ sym (none-append (layout_limits s.version (counts s)) (answer_limits s.version (counts s)))
 
 -- where no limit is exceeded, a word counts the bytes
 pub bounded-same : (s : State) → IsLayout s → bounded_counts s ≡ counts s

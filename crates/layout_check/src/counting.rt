@@ -19,7 +19,8 @@ pub(crate) fn passes_none(state: &State) -> bool
     ensures { result ≡ is_none (limits.passed_limit state.now) }
 {
     let counts = counts(state);
-    are_kept(&counts.layout_limits()) && are_kept(&counts.answer_limits())
+    let version = state.version;
+    are_kept(&counts.layout_limits(version)) && are_kept(&counts.answer_limits(version))
 }
 
 /// Whether none of the limits is exceeded.

@@ -97,5 +97,5 @@ suits s t e before = of e (placed s t e before)
     of : (f : Event) → is_placed s f ≡ true → SuitsTree f t
     of (Mv entry dir name) is = told (λ s. is_some (entry_at s.entries entry)) (λ s. some-bare s entry) ∙ (and_parts (is_some (entry_at s.entries entry)) _ (and_parts _ _ (and_parts _ _ is).0).0).0
     of (Setq dir query asked) is = (λ i. told (λ s. is_made_directory s.entries dir) (λ s. made-bare s dir) i && not (told (λ s. is_mount_at s.entries dir) (λ s. mount-bare s dir) i)) ∙ (and_parts (is_made_holder s dir) _ is).0
-    of (Ssync mount documents asked) is = (documents-parts documents (and_parts (is_mount_at s.entries mount) (are_documents documents) (and_parts (is_mount_at s.entries mount && are_documents documents) _ is).0).1).1
+    of (Ssync mount documents asked) is = (documents-parts documents (and_parts (is_mount_at s.entries mount) (are_documents documents) (and_parts (is_mount_at s.entries mount && are_documents documents) _ (and_parts _ _ is).0).0).1).1
     of other is = tt

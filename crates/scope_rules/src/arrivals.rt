@@ -30,7 +30,7 @@ pub(crate) fn next_after(tree: &Tree, event: &Event) -> Number
 /// The first number that is free.
 fn first_number(tree: &Tree) -> u64
     ensures next { result ≡ tree.now.state.next }
-    ensures small { result < 2 ^ 32 }
+    ensures small { result < 2 ^ 62 }
 {
     tree.next_number().get()
 }

@@ -17,7 +17,7 @@ use Rattle.hac_model.specs.declared.states.Body.TheVariants.{Semantic}
 use Rattle.hac_model.specs.declared.states.Entry.{Entry}
 use Rattle.hac_model.specs.declared.states.State.{State}
 use Rattle.hac_model.proofs.ChangeLemmas.{or-cases}
-use Rattle.hac_model.proofs.LimitLemmas.{IsWithinLimits, limits-within}
+use Rattle.hac_model.proofs.LimitLemmas.{IsWithinLimits, limits-within, most-numbers}
 use Rattle.hac_model.proofs.TreeLemmas.{entry_at-all, entry_at-next}
 use Rattle.hac_model.proofs.ValidLemmas.{directory-below}
 use Rattle.set_pool.specs.Rising.{first_from}
@@ -166,6 +166,6 @@ module _ (s : State) (h : IsValid s) where
       → n < NUMBERS_LIMIT
   next-small dir kind from n found =
       let within : IsWithinLimits s = limits-within s h.layout.limits in
-      let few : s.next ≤ NUMBERS_LIMIT = grind (arith, nat_tests, within.numbers) in
+      let few : s.next ≤ NUMBERS_LIMIT = grind (arith, nat_tests, most-numbers s within) in
       let less : n < s.next = next-below dir kind from n found in
       omega (arith, less, few)

@@ -9,7 +9,7 @@ use Rattle.hac_model.specs.Payload.States.{by_number, document_entry, entries_in
 use Rattle.hac_model.specs.Payload.States.{snapshot_of, stored_entry}
 use Rattle.hac_model.specs.Tree.{entry_at, is_document, is_holder_at, is_mount, is_mount_at}
 use Rattle.hac_model.specs.Tree.Listing.{children, in_order, is_before, put_in_order}
-use Rattle.hac_model.specs.Tree.Sessions.{stored}
+use Rattle.hac_model.specs.Tree.Sessions.{sessionless}
 use Rattle.hac_model.specs.Tree.Valid.{IsLayout, IsValid, NumbersRise, is_in_place}
 use Rattle.hac_model.specs.declared.states.Body.{Body}
 use Rattle.hac_model.specs.declared.states.Body.TheVariants.{File, Dir, Symlink, Semantic, Mount, Document}
@@ -303,9 +303,9 @@ module _ (s : State) (h : IsLayout s) where
       (λ n. by-numbered n (told plain) ∙ told-found n (entry_at s.entries n) refl
       ∙ sym (entries-found n (entry_at s.entries n) refl))
 
-  pub restores : restored (snapshot_of s) ≡ stored s
+  pub restores : restored (snapshot_of s) ≡ sessionless s
   unfolding restored snapshot_of
-  restores = ap (λ (es : List Entry). record { next = s.next; entries = es; sessions = [] }) told-all
+  restores = ap (λ (es : List Entry). record { version = s.version; next = s.next; entries = es; sessions = [] }) told-all
 
-pub snapshots-restore : (s : State) → IsValid s → restored (snapshot_of s) ≡ stored s
+pub snapshots-restore : (s : State) → IsValid s → restored (snapshot_of s) ≡ sessionless s
 snapshots-restore s valid = restores s valid.layout

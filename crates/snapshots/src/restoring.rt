@@ -10,9 +10,14 @@ use std::alloc::Global;
 pub fn restored(alloc: Global, snapshot: Snapshot) -> Result<State, Memory>
     ensures { IfOk result (λ state. state ≡ restored snapshot) }
 {
-    let Snapshot { next, entries } = snapshot;
+    let Snapshot {
+        version,
+        next,
+        entries,
+    } = snapshot;
     let entries = in_order(all_entries(alloc, entries)?)?;
     Ok(State {
+        version,
         next,
         entries: Seq::new(entries),
         sessions: Seq::new(Vec::new(alloc)),

@@ -21,8 +21,10 @@ pub fn snapshot(alloc: Global, kept: &KeptState) -> Result<Snapshot, Memory>
     ensures { IfOk result (λ snapshot. snapshot ≡ snapshot_of kept.now.state) }
 {
     let entries = stored_entries(alloc, kept)?;
+    let tree = kept.tree();
     Ok(Snapshot {
-        next: kept.tree().next_number(),
+        version: tree.version(),
+        next: tree.next_number(),
         entries: Seq::new(entries),
     })
 }

@@ -10,7 +10,7 @@ ghost use Rattle.layout_check.specs.Rising.{DoRise};
 
 use crate::finding::is_document_of;
 use crate::rising::{do_rise, do_terms_rise};
-use hac_model::{Answer, Body, DOCS_LIMIT, Entry, Node, Number, QUERY_LIMIT, Query, State, Term};
+use hac_model::{Answer, Body, Entry, Node, Number, QUERY_LIMIT, Query, State, Term, Version};
 use hac_words::is_word;
 use kept_state::is_answered;
 
@@ -46,17 +46,17 @@ fn is_sound_mount(state: &State, mount: Number, answers: &[Answer]) -> bool
     ensures { result ≡ valid.is_sound_mount state.now mount answers.now }
 {
     let entries = state.entries.as_slice();
-    has_few(entries, mount)
+    has_few(state.version, entries, mount)
         && do_terms_rise(answers)
         && are_answers(state, mount, answers)
         && are_all_kept(answers, entries)
 }
 
 /// Whether a directory has no more entries than a mount may have documents.
-fn has_few(entries: &[Entry], dir: Number) -> bool
-    ensures { result ≡ counted.has_few entries.now dir }
+fn has_few(version: Version, entries: &[Entry], dir: Number) -> bool
+    ensures { result ≡ counted.has_few version entries.now dir }
 {
-    count_in(entries, dir) <= DOCS_LIMIT
+    count_in(entries, dir) <= version.docs_limit()
 }
 
 /// How many entries a directory has.

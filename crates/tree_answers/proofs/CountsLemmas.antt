@@ -1,5 +1,5 @@
 -- How many links of each kind there are, by the lists that were found.
-use Rattle.std.proofs.Common.{◌≡◌, ℕ, ◌+◌, ◌-◌, ◌<◌, ◌≤◌, Bool, true, false, List, [], ◌∷◌, length, refl, ap, sym, subst, ◌∙◌, arith, inl, inr}
+use Rattle.std.proofs.Common.{◌≡◌, ℕ, ◌+◌, ◌*◌, ◌-◌, ◌<◌, ◌≤◌, Bool, true, false, List, [], ◌∷◌, length, refl, ap, sym, subst, ◌∙◌, arith, inl, inr}
 use Rattle.std.specs.Prelude.{Option, Some, None, sum_by, IsTrue}
 use Rattle.std.specs.List.{AllByRecursion, range_with_len}
 use Rattle.std.specs.Option.{option_map, option_map_or}
@@ -20,7 +20,7 @@ use Rattle.hac_model.specs.declared.states.Body.TheVariants.{Semantic}
 use Rattle.hac_model.specs.declared.states.Entry.{Entry}
 use Rattle.hac_model.specs.declared.states.State.{State}
 use Rattle.hac_model.proofs.ChangeLemmas.{or-cases}
-use Rattle.hac_model.proofs.LimitLemmas.{IsWithinLimits, limits-within}
+use Rattle.hac_model.proofs.LimitLemmas.{limits-within, most-numbers}
 use Rattle.hac_model.proofs.ListedLemmas.{found-listed}
 use Rattle.hac_model.proofs.ValidLemmas.{directory-below}
 use Rattle.hac_model.proofs.TreeLemmas.{entry_at-all, entry_at-next}
@@ -29,6 +29,7 @@ use Rattle.link_kinds.specs.Seen.{Known, lists_in}
 use Rattle.tree_answers.specs.Counting.{CanCount, link_count}
 use Rattle.hac_model.specs.Run.Showing.{line_of_counts}
 use Rattle.tree_answers.proofs.PlainLemmas.{plain-counted}
+use Rattle.tree_answers.proofs.SumLemmas.{one_at, sum-small}
 
 -- Numbers of a valid state.
 
@@ -40,24 +41,11 @@ file-below s n h file = elim (cases_lt n s.next) as (λ _. n < s.next) [
 ]
 
 pub next-few : (s : State) → IsLayout s → s.next ≤ NUMBERS_LIMIT
-next-few s h = let within : IsWithinLimits s = limits-within s h.limits in grind (arith, nat_tests, within.numbers)
+next-few s h = let most = most-numbers s (limits-within s h.limits) in grind (arith, nat_tests, most)
 
 -- Links and marks of a valid state.
 
 module _ (s : State) (h : IsValid s) where
-  pub links-few : (dir : ℕ) → length (transient_at s dir) ≤ NUMBERS_LIMIT
-  links-few dir =
-      omega (arith, ap (λ (ns : List ℕ). length ns) (found-listed s dir h.acyclic), length-filter (λ item. has (transient_at s dir) item) (items s), count_by-le-length (λ item. has (transient_at s dir) item) (items s), length-filter (is_item s) (range_with_len 0 s.next), count_by-le-length (is_item s) (range_with_len 0 s.next), length-range_with_len 0 s.next, next-few s h.layout)
-
-  -- there are no more marks than numbers
-  module _ (test : ℕ → Bool) (below : (n : ℕ) → test n ≡ true → n < s.next) where
-    few-from : (low : ℕ) (ns : List ℕ) → RiseFrom low ns → AllByRecursion (λ n. IsTrue (test n)) ns → low ≤ s.next → low + length ns ≤ s.next
-    few-from low [] rise there least = omega (arith, least)
-    few-from low (n ∷ ns) rise there least = omega (arith, rise.0, few-from (n + 1) ns rise.1 there.1 (omega (arith, below n there.0)))
-
-    few-marks : (ns : List ℕ) → AreMarks test ns → length ns ≤ NUMBERS_LIMIT
-    few-marks ns marks = omega (arith, few-from 0 ns marks.rise marks.there (omega arith), next-few s h.layout)
-
   pub item-below : (n : ℕ) → is_item s n ≡ true → n < s.next
   item-below n is = file-below s n h.layout is
 
@@ -79,13 +67,10 @@ module _ (s : State) (h : IsValid s) where
       by_entry None none_at = (none (can_be_added s), none (is_item s))
       by_entry (Some e) there = by_body e.body (entry_at-all (λ e. AsksWell s e.body) s.entries dir e h.queries there)
 
-  pub marks-few : (dir : ℕ) → (length (permanent_at s dir) ≤ NUMBERS_LIMIT) × (length (prohibited_at s dir) ≤ NUMBERS_LIMIT)
-  marks-few dir = (few-marks (can_be_added s) markable-below (permanent_at s dir) (are-marks dir).0, few-marks (is_item s) item-below (prohibited_at s dir) (are-marks dir).1)
-
   -- links of a kind can be counted, where they are few
   module _ (kind : Kind) (links : Known) (numbers : ℕ → List ℕ) (are : (dir : ℕ) → items_of kind (lists_in links dir) ≡ numbers dir) where
-    pub can-count : ((dir : ℕ) → length (numbers dir) ≤ NUMBERS_LIMIT) → CanCount s kind links
-    can-count few = record { few = λ dir. subst (λ (ns : List ℕ). length ns ≤ NUMBERS_LIMIT) (sym (are dir)) (few dir); next_few = next-few s h.layout }
+    pub can-count : ((dir : ℕ) → length (numbers dir) ≤ 196609 * one_at s.entries dir) → CanCount kind links
+    can-count few = sum-small s (λ dir. length (items_of kind (lists_in links dir))) h.layout (λ dir. subst (λ (ns : List ℕ). length ns ≤ 196609 * one_at s.entries dir) (sym (are dir)) (few dir))
 
     pub count-told : link_count kind s links ≡ over_directories s numbers
     count-told = λ i. sum_by (λ dir. length (are dir i)) (range_with_len 0 s.next)

@@ -2,6 +2,7 @@ pub mod FindingLemmas
 pub mod MarkingLemmas
 pub mod ListingLemmas
 pub mod RangeLemmas
+pub mod SumLemmas
 pub mod LinkLineLemmas
 pub mod QueryLineLemmas
 pub mod PlainLemmas

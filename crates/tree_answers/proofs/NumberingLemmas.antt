@@ -30,7 +30,7 @@ use Rattle.hac_model.proofs.BareLemmas.{mounted-bare, synced-bare}
 use Rattle.hac_model.proofs.ChangeLemmas.{all-filter, all-joined, all-weaker, first_apart}
 use Rattle.hac_model.proofs.FittingLemmas.{IsFitting, layout-fits}
 use Rattle.hac_model.proofs.FoundLemmas.{names-rise}
-use Rattle.hac_model.proofs.LimitLemmas.{limits-within}
+use Rattle.hac_model.proofs.LimitLemmas.{limits-within, most-numbers}
 use Rattle.hac_model.proofs.MountLayoutLemmas.{all-tested, cleared-fits, cleared-mount, fresh-free, gone-stays, keeping-places, numbers-documents, rise-filter, with_documents-fits}
 use Rattle.hac_model.proofs.SuchLemmas.{such-document}
 use Rattle.hac_model.proofs.TreeLemmas.{child-entry, entry_at-above, entry_at-all, entry_at-behind, entry_at-first, place-directory, same_place}
@@ -295,8 +295,8 @@ searched-none list ns x i rise found =
 -- Numbers of the documents of a list.
 
 -- the next number is far below what a number can be
-pub next-small : (s : State) → IsLayout s → s.next + 1 < 2 ^ 62
-next-small s h = grind (arith, nat_tests, (limits-within s h.limits).numbers)
+pub next-small : (s : State) → IsLayout s → s.next + 1 < 2 ^ 63
+next-small s h = let most = most-numbers s (limits-within s h.limits) in grind (arith, nat_tests, most)
 
 pub numbers-even : (es : List Entry) (m next : ℕ) (list : List (List ℕ)) → length (numbers_of es m next list) ≡ length list
 numbers-even es m next [] = refl

@@ -92,7 +92,7 @@ fn push_count(alloc: Global, line: &mut Vec<u8>, word: &[u8], count: u64) -> Res
 /// How many links of a kind there are.
 #[tactic(auto, using(crate::proofs::RangeLemmas::sum_next))]
 fn link_count(kept: &KeptState, links: &Links, kind: Kind) -> u64
-    requires { CanCount kept.now.state kind links.now }
+    requires { CanCount kind links.now }
     ensures { result ≡ link_count kind kept.now.state links.now }
 {
     let mut sum: u64 = 0;

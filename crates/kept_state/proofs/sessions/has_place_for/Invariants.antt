@@ -7,4 +7,4 @@ use Rattle.kept_state.proofs.sessions.has_place_for.Given as goal
 abbrev pub invariant-sessions : goal.invariant-sessions
 invariant-sessions l =
     nat_le (length (sessions_without l.name (drop l.session-index l.sessions))) l.places
-    ≡ are_few (sessions_with l.name l.fn.dir l.fn.sessions)
+    ≡ are_few l.fn.version (sessions_with l.name l.fn.dir l.fn.sessions)

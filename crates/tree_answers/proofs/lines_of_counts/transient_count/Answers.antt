@@ -3,16 +3,16 @@ use Rattle.hac_model.specs.Tree.Links.{transient_at, transient_count}
 use Rattle.hac_model.specs.Tree.Valid.{IsValid}
 use Rattle.hac_model.specs.declared.marks.Kind.TheVariants.{Transient}
 use Rattle.kept_state.specs.Seen.{Seen}
-use Rattle.tree_answers.specs.Counting.{CanCount, link_count}
-use Rattle.tree_answers.proofs.CountsLemmas.{can-count, count-told, links-few}
+use Rattle.tree_answers.specs.Counting.{link_count}
+use Rattle.tree_answers.proofs.CountsLemmas.{can-count, count-told}
+use Rattle.tree_answers.proofs.SumLemmas.{links-few}
 use Rattle.tree_answers.proofs.lines_of_counts.transient_count.Goals as goal
 
 pub link_count-requires : goal.link_count-requires
 link_count-requires c =
     let valid = subst (λ (seen : Seen). IsValid seen.state) c.kept-kept.ensures c.know_valid.ensures in
     let s = c.args.linked.now.state in
-    subst (λ (seen : Seen). CanCount seen.state Transient c.links.result.now) (sym c.kept-kept.ensures)
-    (can-count s valid Transient c.links.result.now (transient_at s) c.links.ensures.found (links-few s valid))
+    can-count s valid Transient c.links.result.now (transient_at s) c.links.ensures.found (links-few s valid)
 
 pub returns : goal.returns
 unfolding transient_count

@@ -1,9 +1,9 @@
-use Rattle.std.proofs.Common.{◌≡◌, ◌≤◌, ◌+◌, ℕ, List, Some, false, cond, ap, subst, sym, ◌∙◌, arith}
+use Rattle.std.proofs.Common.{◌≡◌, ◌≤◌, ◌+◌, ℕ, List, Some, false, cond, refl, ap, subst, sym, ◌∙◌, arith}
 use Rattle.std.specs.Prelude.{◌||◌, nat_eq, nat_lt, insert}
 use Rattle.std.proofs.lemmas.Bool.Decides.{nat_tests}
 use Rattle.hac_model.specs.Tree.Events.{added}
 use Rattle.hac_model.specs.declared.limits.TheConstants.{NUMBERS_LIMIT}
-use Rattle.hac_model.proofs.LimitLemmas.{limits-within}
+use Rattle.hac_model.proofs.LimitLemmas.{limits-within, most-numbers}
 use Rattle.file_tree.specs.Answers.{is_dirty_at}
 use Rattle.file_tree.specs.Nodes.{body_from, entry_of, kids_of, name_of}
 use Rattle.file_tree.specs.Ready.{is_awaited, ready_for}
@@ -22,8 +22,9 @@ use Rattle.file_tree.proofs.tree.Tree.add.Goals as goal
 
 pub overflow_add-get : goal.overflow_add-get
 overflow_add-get c =
-    let within = limits-within (added c.args.self.now.state c.args.dir c.args.name (body_from c.args.body)) c.requires.may.layout.limits in
-    let low : nat_lt NUMBERS_LIMIT (c.args.self.now.state.next + 1) ≡ false = within.numbers in
+    let after = added c.args.self.now.state c.args.dir c.args.name (body_from c.args.body) in
+    let within = limits-within after c.requires.may.layout.limits in
+    let low : nat_lt NUMBERS_LIMIT (c.args.self.now.state.next + 1) ≡ false = most-numbers after within in
     let same : c.self.inside.next ≡ c.args.self.now.state.next = ap (λ (x : Seen). x.state.next) c.self.view_is in
     let small : c.args.self.now.state.next + 1 ≤ NUMBERS_LIMIT = grind (arith, nat_tests, low) in
     omega (arith, c.get.ensures)
@@ -54,14 +55,14 @@ module _ (c : goal.After-counts-1) where
 
 pub returns : goal.returns
 returns c =
-    let state = state-added c.self.inside c.args.self.now c.self.view_is c.self.invariant.shaped (u c) c.args.dir c.args.name (body_from c.args.body) (next c) (entries c) in
+    let state = state-added c.self.inside c.args.self.now c.self.view_is c.self.invariant.shaped (u c) c.args.dir c.args.name (body_from c.args.body) (next c) refl (entries c) in
     λ i. record { state = state i; ready = c.replace.ensures.after i }
 
 pub invariant_of-self : goal.invariant_of-self
 invariant_of-self c =
     let s = c.args.self.now in
     became (u c) (added s.state c.args.dir c.args.name (body_from c.args.body)) (returns c)
-    (shaped-added c.self.inside s c.self.view_is c.self.invariant.shaped (u c) c.args.dir c.args.name (body_from c.args.body) (next c) (entries c) (names c) (kids c)
+    (shaped-added c.self.inside s c.self.view_is c.self.invariant.shaped (u c) c.args.dir c.args.name (body_from c.args.body) (next c) refl (entries c) (names c) (kids c)
     (λ n. c.put.ensures.numbers n ∙ c.insert_named.ensures.numbers n) (spare c).0.1 c.requires.may.layout (subst (λ (r : Ready). HasSpare r c.put.new.nodes c.new-self-inside.result) (sym c.replace.ensures.after) tt))
     c.requires.may.counts_are
     (λ n.

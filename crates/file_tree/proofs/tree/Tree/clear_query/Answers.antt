@@ -10,7 +10,7 @@ made : (c : goal.After-counts-1) → Became (record c.self.inside { nodes = c.cl
 made c =
     let s : Seen = record { state = c.args.self.now.state; ready = Nothing } in
     let view = c.self.view_is ∙ c.forget.ensures in
-    tree-edited c.self.inside s view c.self.invariant _ c.args.dir (plain_body) refl (ap (λ (x : Seen). x.ready) view) c.clear_query.ensures.entries c.clear_query.ensures.names c.clear_query.ensures.kids c.clear_query.ensures.numbers c.requires.may.layout c.requires.may.counts_are (λ n.
+    tree-edited c.self.inside s view c.self.invariant _ c.args.dir (plain_body) refl refl (ap (λ (x : Seen). x.ready) view) c.clear_query.ensures.entries c.clear_query.ensures.names c.clear_query.ensures.kids c.clear_query.ensures.numbers c.requires.may.layout c.requires.may.counts_are (λ n.
     set-dirty c.self.inside s view c.self.invariant refl n ∙ dirty-kept s.state c.args.dir (edited (plain_body)) n (λ e. refl) (λ e. plain-dirty e.body))
 
 pub invariant_of-self : goal.invariant_of-self

@@ -1,4 +1,4 @@
-use Rattle.std.proofs.Common.{◌≡◌, ◌≤◌, ◌+◌, ℕ, List, [], Option, Some, false, length, cond, ap, subst, ◌∙◌, arith}
+use Rattle.std.proofs.Common.{◌≡◌, ◌≤◌, ◌+◌, ℕ, List, [], Option, Some, false, length, cond, refl, ap, subst, ◌∙◌, arith}
 use Rattle.std.specs.Prelude.{◌||◌, nat_eq, nat_lt, insert}
 use Rattle.std.proofs.lemmas.Bool.Decides.{nat_tests}
 use Rattle.std.proofs.Math.Bool.{or-false}
@@ -7,7 +7,7 @@ use Rattle.hac_model.specs.declared.states.Body.TheVariants as body
 use Rattle.hac_model.specs.declared.states.Entry.{Entry}
 use Rattle.hac_model.specs.declared.states.State.{State}
 use Rattle.hac_model.specs.declared.limits.TheConstants.{NUMBERS_LIMIT}
-use Rattle.hac_model.proofs.LimitLemmas.{limits-within}
+use Rattle.hac_model.proofs.LimitLemmas.{limits-within, most-numbers}
 use Rattle.file_tree.specs.Answers.{is_dirty_at}
 use Rattle.file_tree.specs.Documents.{numbers_up, unknown, with_entries, with_names}
 use Rattle.file_tree.specs.Nodes.{entry_of, kids_of, name_of}
@@ -42,8 +42,9 @@ put_unknown-self-inside-requires-clause-there c = λ q high low.
 
 pub put_unknown-self-inside-requires-clause-few : goal.put_unknown-self-inside-requires-clause-few
 put_unknown-self-inside-requires-clause-few c =
-    let within = limits-within (mounted c.args.self.now.state c.args.dir c.args.name c.args.space [] c.args.documents) c.requires.may.layout.limits in
-    let low : nat_lt NUMBERS_LIMIT (c.args.self.now.state.next + 1 + length c.args.documents) ≡ false = within.numbers in
+    let after = mounted c.args.self.now.state c.args.dir c.args.name c.args.space [] c.args.documents in
+    let within = limits-within after c.requires.may.layout.limits in
+    let low : nat_lt NUMBERS_LIMIT (c.args.self.now.state.next + 1 + length c.args.documents) ≡ false = most-numbers after within in
     let same : c.self.inside.next ≡ c.args.self.now.state.next = ap (λ (x : Seen). x.state.next) c.self.view_is in
     let small : c.args.self.now.state.next + 1 + length c.args.documents ≤ NUMBERS_LIMIT = grind (arith, nat_tests, low) in
     let first : c.new-first.result ≡ c.self.inside.next + 1 = c.new-first.ensures ∙ ap (λ (k : ℕ). k + 1) c.get.ensures in
@@ -72,6 +73,7 @@ module _ (c : goal.After-counts-1) where
   came : IsMounted c.self.inside c.args.self.now c.self.view_is c.self.invariant.shaped u c.args.dir c.args.name c.args.space c.args.documents
   came = record {
     next = c.put_unknown-self-inside.ensures.next ∙ (λ i. first i + length (all i));
+    version = refl;
     entries = λ n.
         c.put_children.ensures.entries n ∙ c.put_unknown-self-inside.ensures.entries n
         ∙ (λ i. with_entries (documents_from (first i) t.next (all i)) (entry_of c.put.new.nodes) n)

@@ -60,13 +60,13 @@ module _ (c : goal.After-counts-1) where
       ∙ rank-same (name_of c.self.inside.nodes) (name_of c.drop_child.new.nodes) c.args.name (kids_of c.drop_child.new.nodes c.args.dir) (λ n among. c.drop_child.ensures.names n))
 
 pub returns : goal.returns
-returns c = ap (λ (x : State). record { state = x; ready = Nothing }) (state-changed c.self.inside c.args.self.now c.self.view_is c.self.invariant.shaped (u c) c.args.entry (reseated c.args.dir c.args.name) refl (entries c))
+returns c = ap (λ (x : State). record { state = x; ready = Nothing }) (state-changed c.self.inside c.args.self.now c.self.view_is c.self.invariant.shaped (u c) c.args.entry (reseated c.args.dir c.args.name) refl refl (entries c))
 
 pub invariant_of-self : goal.invariant_of-self
 invariant_of-self c =
     let s = c.args.self.now in
     became (u c) (changed_at s.state c.args.entry (reseated c.args.dir c.args.name)) (returns c)
-    (shaped-moved c.self.inside s c.self.view_is c.self.invariant.shaped (u c) c.args.entry c.args.dir c.parent_at-parent.result c.args.name refl c.parent_at-parent.ensures (entries c) (names c) (kids_of c.drop_child.new.nodes) (left c) (kids c)
+    (shaped-moved c.self.inside s c.self.view_is c.self.invariant.shaped (u c) c.args.entry c.args.dir c.parent_at-parent.result c.args.name refl refl c.parent_at-parent.ensures (entries c) (names c) (kids_of c.drop_child.new.nodes) (left c) (kids c)
     (λ q. c.reseat.ensures.numbers q ∙ c.insert_named.ensures.numbers q ∙ c.drop_child.ensures.numbers q) (spare c).1 c.requires.may.layout tt)
     c.requires.may.counts_are
     (λ n.

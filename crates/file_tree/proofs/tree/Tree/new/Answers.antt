@@ -3,7 +3,7 @@ use Rattle.std.specs.BTreeMap.{is_at}
 use Rattle.std.specs.List.{list_any}
 use Rattle.std.specs.Ordering.{nat_cmp}
 use Rattle.std.proofs.lemmas.Bool.{ne_eqb}
-use Rattle.hac_model.specs.Tree.{empty}
+use Rattle.hac_model.specs.Tree.{root_alone}
 use Rattle.hac_model.specs.declared.states.State.{State}
 use Rattle.file_tree.specs.Nodes.{entry_of}
 use Rattle.file_tree.specs.declared.ready.Ready.TheVariants.{Nothing}
@@ -14,8 +14,8 @@ use Rattle.file_tree.proofs.tree.Tree.new.Goals as goal
 pub invariant_of-result : goal.invariant_of-result
 invariant_of-result c =
     let entries : (n : ℕ) → entry_of c.prepare.new.nodes n ≡ None = λ n. c.prepare.ensures.entries n ∙ empty-entry c.new-nodes.result c.new-nodes.ensures.empty n in
-    became _ empty
-    (ap (λ (s : State). record { state = s; ready = Nothing }) (state-new (record { alloc = c.args.alloc; next = c.new.result; nodes = c.prepare.new.nodes; documents = c.new-2.result; ready = Nothing; counts = c.of_root.result; to_index = c.new-3.result }) c.new.ensures entries))
+    became _ (root_alone c.args.version)
+    (ap (λ (s : State). record { state = s; ready = Nothing }) (state-new (record { alloc = c.args.alloc; version = c.args.version; next = c.new.result; nodes = c.prepare.new.nodes; documents = c.new-2.result; ready = Nothing; counts = c.of_root.result; to_index = c.new-3.result }) c.new.ensures entries))
     (shaped-new _ c.new.ensures entries
     (λ dir. c.prepare.ensures.kids dir ∙ empty-kids c.new-nodes.result c.new-nodes.ensures.empty dir)
     c.in_ok-prepare.ensures.there

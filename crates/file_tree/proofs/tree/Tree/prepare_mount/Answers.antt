@@ -22,21 +22,21 @@ reserve_child-requires c = directory-node c.self.inside c.args.self.now.state (c
 
 pub invariant_of-self : goal.invariant_of-self
 invariant_of-self c =
-    tree-readied c.self.inside c.self.invariant _ refl c.prepare_nodes.ensures.entries
+    tree-readied c.self.inside c.self.invariant _ refl refl c.prepare_nodes.ensures.entries
     (λ n low. c.prepare_nodes.ensures.names n (omega (arith, c.get.ensures))) c.prepare_nodes.ensures.kids
     (λ n low. c.prepare_nodes.ensures.others n (omega (arith, c.get.ensures)))
     (spare-nothing c.self.inside c.args.self.now.state (c.self.view_is ∙ c.forget.ensures) c.prepare_nodes.new.nodes c.self.inside.next) refl c.self.invariant.dirty_are c.self.invariant.documents_are
 
 pub invariant_of-self-in_err-reserve_child : goal.invariant_of-self-in_err-reserve_child
 invariant_of-self-in_err-reserve_child c =
-    tree-readied c.self.inside c.self.invariant _ refl (λ n. c.reserve_child.ensures.entries n ∙ c.prepare_nodes.ensures.entries n)
+    tree-readied c.self.inside c.self.invariant _ refl refl (λ n. c.reserve_child.ensures.entries n ∙ c.prepare_nodes.ensures.entries n)
     (λ n low. c.reserve_child.ensures.names n ∙ c.prepare_nodes.ensures.names n (omega (arith, c.get.ensures))) (λ d. c.reserve_child.ensures.kids d ∙ c.prepare_nodes.ensures.kids d)
     (λ n low. c.reserve_child.ensures.numbers n ∙ c.prepare_nodes.ensures.others n (omega (arith, c.get.ensures)))
     (spare-nothing c.self.inside c.args.self.now.state (c.self.view_is ∙ c.forget.ensures) c.reserve_child.new.nodes c.self.inside.next) refl c.self.invariant.dirty_are c.self.invariant.documents_are
 
 pub invariant_of-self-in_err-numbers_up : goal.invariant_of-self-in_err-numbers_up
 invariant_of-self-in_err-numbers_up c =
-    tree-readied c.self.inside c.self.invariant _ refl (λ n. c.reserve_child.ensures.entries n ∙ c.prepare_nodes.ensures.entries n)
+    tree-readied c.self.inside c.self.invariant _ refl refl (λ n. c.reserve_child.ensures.entries n ∙ c.prepare_nodes.ensures.entries n)
     (λ n low. c.reserve_child.ensures.names n ∙ c.prepare_nodes.ensures.names n (omega (arith, c.get.ensures))) (λ d. c.reserve_child.ensures.kids d ∙ c.prepare_nodes.ensures.kids d)
     (λ n low. c.reserve_child.ensures.numbers n ∙ c.prepare_nodes.ensures.others n (omega (arith, c.get.ensures)))
     (spare-nothing c.self.inside c.args.self.now.state (c.self.view_is ∙ c.forget.ensures) c.reserve_child.new.nodes c.self.inside.next) refl c.self.invariant.dirty_are c.self.invariant.documents_are
@@ -44,7 +44,7 @@ invariant_of-self-in_err-numbers_up c =
 pub invariant_of-self-2 : goal.invariant_of-self-2
 invariant_of-self-2 c =
     let view = c.self.view_is ∙ c.forget.ensures in
-    tree-readied c.self.inside c.self.invariant _ refl (λ n. c.reserve_child.ensures.entries n ∙ c.prepare_nodes.ensures.entries n)
+    tree-readied c.self.inside c.self.invariant _ refl refl (λ n. c.reserve_child.ensures.entries n ∙ c.prepare_nodes.ensures.entries n)
     (λ n low. c.reserve_child.ensures.names n ∙ c.prepare_nodes.ensures.names n (omega (arith, c.get.ensures))) (λ d. c.reserve_child.ensures.kids d ∙ c.prepare_nodes.ensures.kids d)
     (λ n low. c.reserve_child.ensures.numbers n ∙ c.prepare_nodes.ensures.others n (omega (arith, c.get.ensures))) (
       (

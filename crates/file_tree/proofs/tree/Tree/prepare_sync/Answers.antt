@@ -36,7 +36,7 @@ list_numbers-requires-clause-few c =
 
 pub invariant_of-self : goal.invariant_of-self
 invariant_of-self c =
-    tree-readied c.self.inside c.self.invariant _ refl c.prepare_nodes.ensures.entries
+    tree-readied c.self.inside c.self.invariant _ refl refl c.prepare_nodes.ensures.entries
     (λ n low. c.prepare_nodes.ensures.names n (omega (arith, c.get-first.ensures))) c.prepare_nodes.ensures.kids
     (λ n low. c.prepare_nodes.ensures.others n (omega (arith, c.get-first.ensures)))
     (spare-nothing c.self.inside c.args.self.now.state (c.self.view_is ∙ c.forget.ensures) c.prepare_nodes.new.nodes c.self.inside.next) refl c.self.invariant.dirty_are c.self.invariant.documents_are
@@ -64,7 +64,7 @@ invariant_of-self-2 c =
     let t = c.self.inside in
     let h = c.self.invariant.shaped in
     let last : c.in_ok-end.end ≡ t.next + length (unknown (find t h c.args.mount (is c)) c.args.documents.now) = end c in
-    tree-readied t c.self.invariant _ refl c.prepare_nodes.ensures.entries
+    tree-readied t c.self.invariant _ refl refl c.prepare_nodes.ensures.entries
     (λ n low. c.prepare_nodes.ensures.names n (omega (arith, c.get-first.ensures))) c.prepare_nodes.ensures.kids
     (λ n low. c.prepare_nodes.ensures.others n (omega (arith, c.get-first.ensures)))
     (λ q among. elim (number-from (find t h c.args.mount (is c)) c.args.documents.now t.next q (subst (λ (ns : List ℕ). Among ns q) (numbers c) among)) [
@@ -86,6 +86,6 @@ pub returns-clause-ok : goal.returns-clause-ok
 returns-clause-ok c =
     let t = c.self.inside in
     let u : Inside = record t { nodes = c.prepare_nodes.new.nodes; ready = Sync c.args.mount c.new-numbers-2.result } in
-    let state = state-same t (record { state = c.args.self.now.state; ready = Nothing }) (view c) c.self.invariant.shaped u refl c.prepare_nodes.ensures.entries in
+    let state = state-same t (record { state = c.args.self.now.state; ready = Nothing }) (view c) c.self.invariant.shaped u refl refl c.prepare_nodes.ensures.entries in
     let list = numbers c ∙ ap (λ (x : Seen). numbers_for x.state c.args.mount c.args.documents.now) (view c) in
     λ i. record { state = state i; ready = Sync c.args.mount (list i) }

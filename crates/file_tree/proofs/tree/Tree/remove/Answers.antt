@@ -36,10 +36,10 @@ module _ (c : goal.After-counts-1) where
       let view = c.self.view_is ∙ c.forget.ensures in
       let u = record c.self.inside { nodes = c.take_out.new.nodes; counts = c.args.counts; to_index = c.drop_number.new.numbers } in
       let ready = ap (λ (x : Seen). x.ready) view in
-      let seen : seen_of u ≡ record { state = removed s.state c.args.entry; ready = Nothing } = λ i. record { state = state-removed c.self.inside s view c.self.invariant.shaped u c.args.entry refl entries i; ready = ready i } in (
+      let seen : seen_of u ≡ record { state = removed s.state c.args.entry; ready = Nothing } = λ i. record { state = state-removed c.self.inside s view c.self.invariant.shaped u c.args.entry refl refl entries i; ready = ready i } in (
         seen,
         became u (removed s.state c.args.entry) seen
-            (shaped-removed c.self.inside s view c.self.invariant.shaped u c.args.entry c.parent_at-parent.result refl c.parent_at-parent.ensures entries
+            (shaped-removed c.self.inside s view c.self.invariant.shaped u c.args.entry c.parent_at-parent.result refl refl c.parent_at-parent.ensures entries
             (λ q other. c.take_out.ensures.names q other ∙ c.drop_child.ensures.names q) kids
             (λ q. c.take_out.ensures.numbers q ∙ ap (λ (b : Bool). cond (nat_eq c.args.entry q) false b) (c.drop_child.ensures.numbers q)) c.requires.may.layout (subst (λ (r : Ready). HasSpare r c.take_out.new.nodes c.self.inside.next) (sym ready) tt))
             c.requires.may.counts_are

@@ -10,7 +10,7 @@ made : (c : goal.After-counts-1) → Became (record c.self.inside { nodes = c.se
 made c =
     let s : Seen = record { state = c.args.self.now.state; ready = Nothing } in
     let view = c.self.view_is ∙ c.forget.ensures in
-    tree-edited c.self.inside s view c.self.invariant _ c.args.dir (asking c.args.query) refl (ap (λ (x : Seen). x.ready) view) c.set_query.ensures.entries c.set_query.ensures.names c.set_query.ensures.kids c.set_query.ensures.numbers c.requires.may.layout c.requires.may.counts_are (λ n.
+    tree-edited c.self.inside s view c.self.invariant _ c.args.dir (asking c.args.query) refl refl (ap (λ (x : Seen). x.ready) view) c.set_query.ensures.entries c.set_query.ensures.names c.set_query.ensures.kids c.set_query.ensures.numbers c.requires.may.layout c.requires.may.counts_are (λ n.
     set-dirty c.self.inside s view c.self.invariant refl n ∙ dirty-kept s.state c.args.dir (edited (asking c.args.query)) n (λ e. refl) (λ e. asking-dirty c.args.query e.body))
 
 pub invariant_of-self : goal.invariant_of-self

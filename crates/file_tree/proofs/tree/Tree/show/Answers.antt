@@ -9,7 +9,7 @@ use Rattle.file_tree.proofs.tree.Tree.show.Goals as goal
 made : (c : goal.After-counts-1) → Became (record c.self.inside { nodes = c.show_text.new.nodes; counts = c.args.counts; to_index = c.drop_number.new.numbers }) (changed_at c.args.self.now.state c.args.file (edited indexed))
 made c =
     let s = c.args.self.now in
-    tree-edited c.self.inside s c.self.view_is c.self.invariant _ c.args.file indexed refl (ap (λ (x : Seen). x.ready) c.self.view_is ∙ c.requires.ready) c.show_text.ensures.entries c.show_text.ensures.names c.show_text.ensures.kids c.show_text.ensures.numbers c.requires.may.layout c.requires.may.counts_are (λ n.
+    tree-edited c.self.inside s c.self.view_is c.self.invariant _ c.args.file indexed refl refl (ap (λ (x : Seen). x.ready) c.self.view_is ∙ c.requires.ready) c.show_text.ensures.entries c.show_text.ensures.names c.show_text.ensures.kids c.show_text.ensures.numbers c.requires.may.layout c.requires.may.counts_are (λ n.
     c.drop_number.ensures n
     ∙ ap (λ (b : Bool). b && not (c.args.file == n)) (set-dirty c.self.inside s c.self.view_is c.self.invariant c.requires.ready n)
     ∙ dirty-indexed s.state c.args.file n)

@@ -1,4 +1,4 @@
-use Rattle.std.proofs.Common.{◌≡◌, ◌≤◌, ◌<◌, ◌+◌, ℕ, List, [], Bool, true, false, length, cond, ap, subst, sym, ◌∙◌, arith}
+use Rattle.std.proofs.Common.{◌≡◌, ◌≤◌, ◌<◌, ◌+◌, ℕ, List, [], Bool, true, false, length, cond, refl, ap, subst, sym, ◌∙◌, arith}
 use Rattle.std.specs.Prelude.{◌&&◌, ◌||◌, nat_eq, nat_lt, is_none, Option, None}
 use Rattle.std.proofs.lemmas.Bool.Decides.{nat_tests}
 use Rattle.std.proofs.Math.Bool.{or-false}
@@ -8,7 +8,7 @@ use Rattle.hac_model.specs.Tree.{is_mount_at}
 use Rattle.hac_model.specs.Tree.Valid.{IsLayout}
 use Rattle.hac_model.specs.declared.states.Entry.{Entry}
 use Rattle.hac_model.specs.declared.limits.TheConstants.{NUMBERS_LIMIT}
-use Rattle.hac_model.proofs.LimitLemmas.{limits-within}
+use Rattle.hac_model.proofs.LimitLemmas.{limits-within, most-numbers}
 use Rattle.file_tree.specs.Answers.{is_dirty_at}
 use Rattle.file_tree.specs.Documents.{is_dropped, numbers_from, unknown, with_entries, with_names}
 use Rattle.file_tree.specs.Listed.{Listed}
@@ -62,8 +62,9 @@ put_unknown-self-inside-requires-clause-few c =
     let h = c.self.invariant.shaped in
     let is = mount-inside t c.args.self.now c.self.view_is c.args.mount c.requires.mount in
     let same = finds t c.args.self.now c.self.view_is c.args.mount h is (name_of c.put_children.new.nodes) c.as_slice.result.now c.put_children.ensures.names (c.as_slice.ensures ∙ c.put_children.ensures.given) in
-    let within = limits-within (with_documents (without_such (is_gone c.args.mount c.args.documents) s) c.args.mount (fresh s c.args.mount c.args.documents)) c.requires.may.layout.limits in
-    let low : nat_lt NUMBERS_LIMIT (s.next + length (fresh s c.args.mount c.args.documents)) ≡ false = within.numbers in
+    let after = with_documents (without_such (is_gone c.args.mount c.args.documents) s) c.args.mount (fresh s c.args.mount c.args.documents) in
+    let within = limits-within after c.requires.may.layout.limits in
+    let low : nat_lt NUMBERS_LIMIT (s.next + length (fresh s c.args.mount c.args.documents)) ≡ false = most-numbers after within in
     let small : s.next + length (fresh s c.args.mount c.args.documents) ≤ NUMBERS_LIMIT = grind (arith, nat_tests, low) in
     let inside : t.next + length (unknown (find t h c.args.mount is) c.args.documents) ≤ NUMBERS_LIMIT = subst (λ (x : Seen). x.state.next + length (fresh x.state c.args.mount c.args.documents) ≤ NUMBERS_LIMIT) (sym c.self.view_is) small in
     let most : (k : ℕ) → k ≤ NUMBERS_LIMIT → k < 18446744073709551616 = λ k le. omega arith in
@@ -142,6 +143,7 @@ module _ (c : goal.After-drop-numbers-inside) where
   redone : IsRedone c.self.inside c.self.invariant.shaped c.args.mount is c.args.documents u
   redone = record {
     next = c.put_unknown-self-inside.ensures.next ∙ (λ i. c.self.inside.next + length (unknown (same i) c.args.documents));
+    version = refl;
     entries = λ q.
         c.put_children-2.ensures.entries q ∙ c.take_dropped.ensures.entries q
         ∙ ap (λ (b : Bool). cond {A = Option Entry} b None (entry_of c.put_unknown-self-inside.new.nodes q)) (dropped q)

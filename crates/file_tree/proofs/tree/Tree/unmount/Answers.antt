@@ -74,6 +74,7 @@ module _ (c : goal.After-drop-documents-inside) where
   gone : IsUnmounted c.self.inside c.self.invariant.shaped c.args.mount is c.parent_at-parent.result c.parent_at-parent.ensures u
   gone = record {
     next = refl;
+    version = refl;
     entries = λ q.
         c.take_out.ensures.entries q
         ∙ ap (λ (o : Option Entry). cond (nat_eq c.args.mount q) None o) (
