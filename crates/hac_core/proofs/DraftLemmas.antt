@@ -14,13 +14,12 @@ use Rattle.hac_model.specs.Spaces.Answering.{AreAnswersTo}
 use Rattle.hac_model.specs.Tree.Events.{apply_all, dirty, is_free, is_placed}
 use Rattle.hac_model.specs.Tree.Limits.{are_answers_few, counts, first_passed, layout_limits, passed_limit}
 use Rattle.hac_model.specs.Tree.Links.{parent_of}
-use Rattle.hac_model.specs.Tree.Mounting.{are_documents}
+use Rattle.hac_model.specs.Tree.Mounting.{are_documents, are_documents_few}
 use Rattle.hac_model.specs.Tree.Sessions.{is_stored}
 use Rattle.hac_model.specs.Tree.Valid.{IsLayout, IsValid}
 use Rattle.hac_model.specs.Tree.{entry_at, is_document_at, is_mount_at, path_of}
 use Rattle.hac_model.specs.declared.states.Entry.{Entry}
 use Rattle.hac_model.specs.declared.events.Event.{Event}
-use Rattle.hac_model.specs.declared.limits.TheConstants.{DOCS_LIMIT}
 use Rattle.hac_model.specs.declared.limits.LimitWord.TheVariants.{Answers as AnswersWord, Docs}
 use Rattle.hac_model.specs.declared.places.Place.TheVariants.{There, Free}
 use Rattle.hac_model.specs.declared.replies.Deny.{Deny}
@@ -45,9 +44,12 @@ use Rattle.hac_core.specs.declared.drafts.Known.{Known}
 use Rattle.hac_core.specs.declared.drafts.Known.TheVariants.{Reads, Changes, Indexes, Saves}
 use Rattle.hac_core.specs.declared.drafts.Settled.{Settled}
 use Rattle.hac_core.specs.declared.drafts.Settled.TheVariants as settled
+use Rattle.hac_model.specs.declared.versions.Version.{Version}
+use Rattle.hac_model.specs.declared.versions.Version.TheVariants.{One, Two}
+use Rattle.hac_model.proofs.VersionLemmas.{apply_all-version}
 
 -- a valid state exceeds no limit on the tree
-valid-limits : (s : State) → IsValid s → first_passed (layout_limits (counts s)) ≡ None
+valid-limits : (s : State) → IsValid s → first_passed (layout_limits s.version (counts s)) ≡ None
 valid-limits s h =
     let within : IsWithinLimits s = limits-within s h.layout.limits in
     first-before _ _ within.texts (first-before _ _ within.dirs (first-before _ _ within.semantics (first-before _ _ within.mounts (first-before _ _ within.symlinks (first-before _ _ (paths-short s.entries within.paths) none-passed)))))
@@ -64,11 +66,16 @@ lone (Some e) = refl
 
 -- Answers.
 
+-- no document is no document too many
+none-many : (version : Version) → (if are_documents_few version [] then None else Some (Limit Docs)) ≡ None
+none-many One = refl
+none-many Two = refl
+
 -- where no list is asked for, no mount gets too many documents
-few-unlisted : (answers : Answers) (asked : Asks) → asked.list ≡ None → AreAnswersTo asked answers → docs_cause answers ≡ None
-few-unlisted answers asked none told =
+few-unlisted : (s : State) (answers : Answers) (asked : Asks) → asked.list ≡ None → AreAnswersTo asked answers → docs_cause s answers ≡ None
+few-unlisted s answers asked none told =
     let empty : answers.list ≡ [] = subst (λ (o : Option (List ℕ)). IfNone o (answers.list ≡ [])) none told.unlisted in
-    ap (λ (names : List (List ℕ)). if nat_le (length names) DOCS_LIMIT then None else Some (Limit Docs)) empty
+    ap (λ (names : List (List ℕ)). if are_documents_few s.version names then None else Some (Limit Docs)) empty ∙ none-many s.version
 
 -- a command that reads, or indexes, asks for no list
 text-unlisted : (s : State) (entry : ℕ) → (asks s (command.Cat entry)).list ≡ None
@@ -117,7 +124,7 @@ module _ (s : State) (h : IsValid s) where
   -- where a command leads to a valid state and lets no directory depend on itself, nothing refuses it that nothing blocks
   led-early : (r : Resolved) → IsValid (led_to no_answers s r) → blocking_cause s r ≡ None → cycle_cause s r ≡ None → early_cause s r ≡ None
   led-early r led free acyclic =
-      let limits = valid-limits (led_to no_answers s r) led in
+      let limits = subst (λ (version : Version). first_passed (layout_limits version (counts (led_to no_answers s r))) ≡ None) (apply_all-version s (events_of no_answers s r)) (valid-limits (led_to no_answers s r) led) in
       λ i. first_cause (free i ∷ option_map Limit (limits i) ∷ acyclic i ∷ [])
 
   -- a command that reads leaves the state
@@ -141,7 +148,7 @@ module _ (s : State) (h : IsValid s) where
   -- only a document that is gone stands against a command that reads
   pub reads-cause : (answers : Answers) (r : Resolved) → is_reading r ≡ true → early_cause s r ≡ None → AreAnswersTo (asks s r) answers → cause answers s r ≡ gone_cause answers s r
   reads-cause answers r reads early told =
-      let docs = few-unlisted answers (asks s r) (reads-unlisted s r reads) told in
+      let docs = few-unlisted s answers (asks s r) (reads-unlisted s r reads) told in
       let limits : passed_limit (led_to answers s r) ≡ None = ap passed_limit (reads-led answers r reads).0 ∙ h.layout.limits in
       let few : are_answers_few (led_to answers s r).entries ≡ true = ap (λ (t : State). are_answers_few t.entries) (reads-led answers r reads).0 ∙ h.few in
       (λ i. first_cause (early i ∷ first_cause (gone_cause answers s r ∷ docs i ∷ option_map Limit (limits i) ∷ (if few i then None else Some (Limit AnswersWord)) ∷ []) ∷ []))
@@ -172,7 +179,7 @@ module _ (s : State) (h : IsValid s) where
 
   index-free : (answers : Answers) (r : Resolved) → is_indexing r ≡ true → AreAnswersTo (asks s r) answers → cause answers s r ≡ None
   index-free answers r indexes told =
-      let docs = few-unlisted answers (asks s r) (index-unlisted s r indexes) told in
+      let docs = few-unlisted s answers (asks s r) (index-unlisted s r indexes) told in
       let limits : passed_limit (led_to answers s r) ≡ None = (steps-valid answers r indexes).layout.limits in
       let few : are_answers_few (led_to answers s r).entries ≡ true = (steps-valid answers r indexes).few in
       λ i. first_cause (index-early r indexes i ∷ first_cause ((index-gone answers r indexes).0 i ∷ docs i ∷ option_map Limit (limits i) ∷ (if few i then None else Some (Limit AnswersWord)) ∷ []) ∷ [])
@@ -187,7 +194,7 @@ module _ (s : State) (h : IsValid s) where
 
   saves-free : (answers : Answers) (r : Resolved) → is_checkpoint r ≡ true → AreAnswersTo (asks s r) answers → cause answers s r ≡ None
   saves-free answers command.Checkpoint saves told =
-      let docs = few-unlisted answers (asks s command.Checkpoint) refl told in
+      let docs = few-unlisted s answers (asks s command.Checkpoint) refl told in
       let limits : passed_limit s ≡ None = h.layout.limits in
       let few : are_answers_few s.entries ≡ true = h.few in
       λ i. first_cause (saves-early command.Checkpoint saves i ∷ first_cause (None ∷ docs i ∷ option_map Limit (limits i) ∷ (if few i then None else Some (Limit AnswersWord)) ∷ []) ∷ [])
@@ -215,7 +222,7 @@ module _ (s : State) (h : IsValid s) where
   -- the causes against an event are those against its command
   change-early : (r : Resolved) (e : Event) → blocking_cause s r ≡ None → event_of no_answers s r ≡ Some e → early_cause s r ≡ change_cause s e
   change-early r e free is =
-      λ i. first_cause (free i ∷ option_map Limit (first_passed (layout_limits (counts (apply_all s (made-events no_answers s r e is i))))) ∷ option_and_then (cycle_against s) (is i) ∷ [])
+      λ i. first_cause (free i ∷ option_map Limit (first_passed (layout_limits s.version (counts (apply_all s (made-events no_answers s r e is i))))) ∷ option_and_then (cycle_against s) (is i) ∷ [])
 
   known-changes : (r : Resolved) (e : Event) (fact : Known) → AllStand s r → blocking_cause s r ≡ None → event_of no_answers s r ≡ Some e → IsChange s e fact → change_cause s e ≡ None → IsKnownOf s r fact
   known-changes r e (Changes change) stands free is made none =
@@ -238,8 +245,8 @@ module _ (s : State) (h : IsValid s) where
 no-told : (s : State) (r : Resolved) → asks s r ≡ record { list = None; searches = []; fetch = None } → AreAnswersTo (asks s r) no_answers
 no-told s r none = subst (λ (asked : Asks). AreAnswersTo asked no_answers) (sym none) (said-answers [] tt (record { list = None; searches = []; fetch = None }))
 
-nothing-few : docs_cause no_answers ≡ None
-nothing-few = refl
+nothing-few : (s : State) → docs_cause s no_answers ≡ None
+nothing-few s = none-many s.version
 
 no-documents : are_documents [] ≡ true
 no-documents = refl
@@ -262,21 +269,21 @@ seated-made s h r e stands free is = subst (λ (o : Option Event). IfSome o (λ 
     of (command.Smount (Free dir name) space) stands free = and_from (is_free s dir name) (are_documents []) (slot-free s h true dir name stands.0) no-documents
     of (command.Ssync mount) stands free = and_from (is_mount_at s.entries mount) (are_documents []) (mounted-there s mount free) no-documents
     of (command.Mkdir (There number)) stands free = tt
-    of (command.Mkdir (Free dir name)) stands free = unblocked-placed s h no_answers (command.Mkdir (Free dir name)) stands free (no-told s (command.Mkdir (Free dir name)) refl) nothing-few
-    of (command.Rmdir dir) stands free = unblocked-placed s h no_answers (command.Rmdir dir) stands free (no-told s (command.Rmdir dir) refl) nothing-few
-    of (command.Write (There number) text) stands free = unblocked-placed s h no_answers (command.Write (There number) text) stands free (no-told s (command.Write (There number) text) refl) nothing-few
-    of (command.Write (Free dir name) text) stands free = unblocked-placed s h no_answers (command.Write (Free dir name) text) stands free (no-told s (command.Write (Free dir name) text) refl) nothing-few
-    of (command.Cd session dir) stands free = unblocked-placed s h no_answers (command.Cd session dir) stands free (no-told s (command.Cd session dir) refl) nothing-few
+    of (command.Mkdir (Free dir name)) stands free = unblocked-placed s h no_answers (command.Mkdir (Free dir name)) stands free (no-told s (command.Mkdir (Free dir name)) refl) (nothing-few s)
+    of (command.Rmdir dir) stands free = unblocked-placed s h no_answers (command.Rmdir dir) stands free (no-told s (command.Rmdir dir) refl) (nothing-few s)
+    of (command.Write (There number) text) stands free = unblocked-placed s h no_answers (command.Write (There number) text) stands free (no-told s (command.Write (There number) text) refl) (nothing-few s)
+    of (command.Write (Free dir name) text) stands free = unblocked-placed s h no_answers (command.Write (Free dir name) text) stands free (no-told s (command.Write (Free dir name) text) refl) (nothing-few s)
+    of (command.Cd session dir) stands free = unblocked-placed s h no_answers (command.Cd session dir) stands free (no-told s (command.Cd session dir) refl) (nothing-few s)
     of (command.Mv entry (There number)) stands free = tt
-    of (command.Mv entry (Free dir name)) stands free = unblocked-placed s h no_answers (command.Mv entry (Free dir name)) stands free (no-told s (command.Mv entry (Free dir name)) refl) nothing-few
-    of (command.Rm entry) stands free = unblocked-placed s h no_answers (command.Rm entry) stands free (no-told s (command.Rm entry) refl) nothing-few
+    of (command.Mv entry (Free dir name)) stands free = unblocked-placed s h no_answers (command.Mv entry (Free dir name)) stands free (no-told s (command.Mv entry (Free dir name)) refl) (nothing-few s)
+    of (command.Rm entry) stands free = unblocked-placed s h no_answers (command.Rm entry) stands free (no-told s (command.Rm entry) refl) (nothing-few s)
     of (command.Ln (There number) target) stands free = tt
-    of (command.Ln (Free dir name) target) stands free = unblocked-placed s h no_answers (command.Ln (Free dir name) target) stands free (no-told s (command.Ln (Free dir name) target) refl) nothing-few
-    of (command.Unq dir) stands free = unblocked-placed s h no_answers (command.Unq dir) stands free (no-told s (command.Unq dir) refl) nothing-few
-    of (command.Sln item dir) stands free = unblocked-placed s h no_answers (command.Sln item dir) stands free (no-told s (command.Sln item dir) refl) nothing-few
-    of (command.Srm item dir) stands free = unblocked-placed s h no_answers (command.Srm item dir) stands free (no-told s (command.Srm item dir) refl) nothing-few
-    of (command.Sforget item dir) stands free = unblocked-placed s h no_answers (command.Sforget item dir) stands free (no-told s (command.Sforget item dir) refl) nothing-few
-    of (command.Sumount mount) stands free = unblocked-placed s h no_answers (command.Sumount mount) stands free (no-told s (command.Sumount mount) refl) nothing-few
+    of (command.Ln (Free dir name) target) stands free = unblocked-placed s h no_answers (command.Ln (Free dir name) target) stands free (no-told s (command.Ln (Free dir name) target) refl) (nothing-few s)
+    of (command.Unq dir) stands free = unblocked-placed s h no_answers (command.Unq dir) stands free (no-told s (command.Unq dir) refl) (nothing-few s)
+    of (command.Sln item dir) stands free = unblocked-placed s h no_answers (command.Sln item dir) stands free (no-told s (command.Sln item dir) refl) (nothing-few s)
+    of (command.Srm item dir) stands free = unblocked-placed s h no_answers (command.Srm item dir) stands free (no-told s (command.Srm item dir) refl) (nothing-few s)
+    of (command.Sforget item dir) stands free = unblocked-placed s h no_answers (command.Sforget item dir) stands free (no-told s (command.Sforget item dir) refl) (nothing-few s)
+    of (command.Sumount mount) stands free = unblocked-placed s h no_answers (command.Sumount mount) stands free (no-told s (command.Sumount mount) refl) (nothing-few s)
     of other stands free = tt
 
 -- What the answers of spaces make of an event.
@@ -335,7 +342,7 @@ gone-none answers s other e is = refl
 
 cause-settling : (answers : Answers) (s : State) (r : Resolved) (e : Event) → early_cause s r ≡ None → event_of no_answers s r ≡ Some e → cause answers s r ≡ settling_cause s answers e
 cause-settling answers s r e early is =
-    (λ i. first_cause (early i ∷ first_cause (gone-none answers s r e is i ∷ docs_cause answers ∷ option_map Limit (passed_limit (apply_all s (events i))) ∷ (if are_answers_few (apply_all s (events i)).entries then None else Some (Limit AnswersWord)) ∷ []) ∷ []))
+    (λ i. first_cause (early i ∷ first_cause (gone-none answers s r e is i ∷ docs_cause s answers ∷ option_map Limit (passed_limit (apply_all s (events i))) ∷ (if are_answers_few (apply_all s (events i)).entries then None else Some (Limit AnswersWord)) ∷ []) ∷ []))
     ∙ lone (settling_cause s answers e)
   where
     events : events_of answers s r ≡ answering s answers e ∷ []
@@ -380,7 +387,7 @@ known-seated s h r change known is fact =
     seated-made s h r change.event own.stands (no_cause (blocking_cause s r) (layout_cause s r ∷ cycle_cause s r ∷ []) own.cause).0 own.known.0
 
 -- so what spaces answered is placed
-pub known-placed : (s : State) → IsLayout s → (answers : Answers) (r : Resolved) (change : Change) (known : Known) → Changes change ≡ known → IsKnownOf s r known → AreAnswersTo (asks s r) answers → docs_cause answers ≡ None → is_placed s (answering s answers change.event) ≡ true
+pub known-placed : (s : State) → IsLayout s → (answers : Answers) (r : Resolved) (change : Change) (known : Known) → Changes change ≡ known → IsKnownOf s r known → AreAnswersTo (asks s r) answers → docs_cause s answers ≡ None → is_placed s (answering s answers change.event) ≡ true
 known-placed s h answers r change known is fact told few =
     let own = subst (IsKnownOf s r) (sym is) fact in
     let free = (no_cause (blocking_cause s r) (layout_cause s r ∷ cycle_cause s r ∷ []) own.cause).0 in

@@ -16,6 +16,7 @@ use Rattle.hac_model.specs.declared.limits.Limit.{Limit}
 use Rattle.hac_model.specs.declared.states.State.{State}
 use Rattle.hac_model.proofs.FewLemmas.{asking-keeps, few-edited}
 use Rattle.hac_core.specs.Fitting.{passes_none}
+use Rattle.hac_model.proofs.VersionLemmas.{apply-version}
 
 -- Limits.
 
@@ -29,25 +30,29 @@ none-append (x ∷ xs) ys =
       | false ↦ none-append xs ys
     ]
 
-pub none-told : (s : State) → passes_none (counts s) ≡ is_none (passed_limit s)
+pub none-told : (s : State) → passes_none s.version (counts s) ≡ is_none (passed_limit s)
 unfolding passed_limit
-none-told s = sym (none-append (layout_limits (counts s)) (answer_limits (counts s)))
+none-told s = sym (none-append (layout_limits s.version (counts s)) (answer_limits s.version (counts s)))
+
+-- the same after an event, which leaves the version
+none-after : (s : State) (e : Event) (held : Counts) → held ≡ counts (apply s e) → passes_none s.version held ≡ is_none (passed_limit (apply s e))
+none-after s e held is = (λ i. passes_none (sym (apply-version s e) i) (is i)) ∙ none-told (apply s e)
 
 -- what is nowhere, exceeds a limit or isn't clear can't happen
 pub not-placed : (s : State) (e : Event) → is_placed s e ≡ false → accepted s e ≡ false
 not-placed s e h = ap (λ (b : Bool). is_clear s e && b && is_none (passed_limit (apply s e))) h ∙ ap (λ (b : Bool). b && is_none (passed_limit (apply s e))) (and-false (is_clear s e))
 
-pub not-within : (s : State) (e : Event) (held : Counts) → held ≡ counts (apply s e) → passes_none held ≡ false → accepted s e ≡ false
+pub not-within : (s : State) (e : Event) (held : Counts) → held ≡ counts (apply s e) → passes_none s.version held ≡ false → accepted s e ≡ false
 not-within s e held is h =
-    let over : is_none (passed_limit (apply s e)) ≡ false = sym (none-told (apply s e)) ∙ ap passes_none (sym is) ∙ h in
+    let over : is_none (passed_limit (apply s e)) ≡ false = sym (none-after s e held is) ∙ h in
     ap (λ (b : Bool). is_clear s e && is_placed s e && b) over ∙ and-false (is_clear s e && is_placed s e)
 
 pub not-clear : (s : State) (e : Event) → is_clear s e ≡ false → accepted s e ≡ false
 not-clear s e h = ap (λ (b : Bool). b && is_placed s e && is_none (passed_limit (apply s e))) h
 
-pub accepts : (s : State) (e : Event) (held : Counts) → is_placed s e ≡ true → held ≡ counts (apply s e) → passes_none held ≡ true → is_clear s e ≡ true → accepted s e ≡ true
+pub accepts : (s : State) (e : Event) (held : Counts) → is_placed s e ≡ true → held ≡ counts (apply s e) → passes_none s.version held ≡ true → is_clear s e ≡ true → accepted s e ≡ true
 accepts s e held placed is within clear =
-    and_from (is_clear s e && is_placed s e) (is_none (passed_limit (apply s e))) (and_from (is_clear s e) (is_placed s e) clear placed) (sym (none-told (apply s e)) ∙ ap passes_none (sym is) ∙ within)
+    and_from (is_clear s e && is_placed s e) (is_none (passed_limit (apply s e))) (and_from (is_clear s e) (is_placed s e) clear placed) (sym (none-after s e held is) ∙ within)
 
 -- a query of which no directory depends on itself is clear where mounts keep few answers after it
 pub clear-asking : (s : State) (e : Event) (dir : ℕ) (query : Formula ℕ) (told : List (List ℕ)) → e ≡ Setq dir query told → is_none (cycle_over s dir (parent_of s dir) query) ≡ true → are_answers_few (apply s e).entries ≡ is_clear s e

@@ -9,7 +9,7 @@ use Rattle.hac_model.specs.Script.SpaceNames.{is_space_name}
 use Rattle.hac_model.specs.Tree.Bare.{bare, bare_body}
 use Rattle.hac_model.specs.Tree.Events.{edited, is_free, is_made_holder, is_placed, may_mount, may_sync}
 use Rattle.hac_model.specs.Tree.Limits.{is_text}
-use Rattle.hac_model.specs.Tree.Mounting.{answers_to, are_documents, are_told, fresh, is_among, mounted, synced}
+use Rattle.hac_model.specs.Tree.Mounting.{answers_to, are_documents, are_documents_few, are_told, fresh, is_among, mounted, synced}
 use Rattle.hac_model.specs.Tree.Mounts.{terms_to_ask}
 use Rattle.hac_model.specs.Tree.Valid.{IsLayout}
 use Rattle.hac_model.specs.Tree.{child, entry_at, is_mount_at}
@@ -26,6 +26,7 @@ use Rattle.hac_core.specs.Fitting.{asks_spaces}
 use Rattle.hac_core.specs.Mounting.{are_told_by, is_one_of, name_at, will_have}
 use Rattle.hac_core.specs.declared.mounting.Coming.{Coming}
 use Rattle.hac_core.proofs.MountedLemmas.{mounted-documents, synced-documents, told-by}
+use Rattle.std.proofs.Math.Bool.{and-false, and-true}
 
 -- a valid state's numbers leave room for one more
 pub one-more : (s : State) → IsLayout s → s.next + 1 < 2 ^ 64
@@ -46,6 +47,15 @@ asks-none (Setq dir query told) semantic asks comes syncs = absurd (asks dir que
 asks-none (Smount dir name space documents told) semantic asks comes syncs = absurd (comes dir name space documents told refl)
 asks-none (Ssync mount documents told) semantic asks comes syncs = absurd (syncs mount documents told refl)
 asks-none other semantic asks comes syncs = refl
+
+-- a test between two others
+between-false : (a b c : Bool) → (a && c) ≡ false → (a && b && c) ≡ false
+between-false true b c h = ap (λ (x : Bool). b && x) h ∙ and-false b
+between-false false b c h = refl
+
+between-true : (a b c : Bool) → (a && c) ≡ true → (a && b && c) ≡ b
+between-true true b c h = ap (λ (x : Bool). b && x) h ∙ and-true b
+between-true false b c h = absurd cc
 
 module _ (s t : State) (bares : bare s ≡ bare t) where
   -- a directory that was made isn't a mount
@@ -84,22 +94,28 @@ module _ (s t : State) (bares : bare s ≡ bare t) where
   same-fresh : (mount : ℕ) (names : List (List ℕ)) → fresh s mount names ≡ fresh t mount names
   same-fresh mount names = λ i. filter (λ name. is_none (same-child mount name i)) names
 
+  same-version : s.version ≡ t.version
+  same-version = ap (λ (x : State). x.version) bares
+
   -- A mount comes.
 
   module _ (dir : ℕ) (name space : List ℕ) (documents told : List (List ℕ)) where
     abbrev come : Bool
-    come = is_free t dir name && is_space_name space && are_documents documents
+    come = is_free t dir name && is_space_name space && are_documents documents && are_documents_few t.version documents
 
-    same-come : (is_free s dir name && is_space_name space && are_documents documents) ≡ come
-    same-come = λ i. same-free s t bares dir name i && is_space_name space && are_documents documents
+    same-come : (is_free s dir name && is_space_name space && are_documents documents && are_documents_few s.version documents) ≡ come
+    same-come = λ i. same-free s t bares dir name i && is_space_name space && are_documents documents && are_documents_few (same-version i) documents
+
+    abbrev told-mounted : Bool
+    told-mounted = are_told (mounted s dir name space (answers_to (terms_to_ask s.entries) told) documents) s.next (terms_to_ask s.entries) told
 
     pub mount-not : come ≡ false → may_mount s dir name space documents told ≡ false
-    mount-not fails = ap (λ (b : Bool). b && are_told (mounted s dir name space (answers_to (terms_to_ask s.entries) told) documents) s.next (terms_to_ask s.entries) told) (same-come ∙ fails)
+    mount-not fails = between-false (is_free s dir name && is_space_name space && are_documents documents) told-mounted (are_documents_few s.version documents) (same-come ∙ fails)
 
     pub mount-told : IsLayout s → come ≡ true → (coming : Coming) (count : ℕ) → coming.mount ≡ t.next → coming.first ≡ t.next + 1 → coming.count ≡ length documents → count ≡ length (terms_to_ask s.entries) →
         are_told_by (will_have t documents coming) count told ≡ may_mount s dir name space documents told
     mount-told h fits coming count at first many terms = sym (
-        ap (λ (b : Bool). b && are_told (mounted s dir name space (answers_to (terms_to_ask s.entries) told) documents) s.next (terms_to_ask s.entries) told) (same-come ∙ fits)
+        between-true (is_free s dir name && is_space_name space && are_documents documents) told-mounted (are_documents_few s.version documents) (same-come ∙ fits)
         ∙ told-by (mounted s dir name space (answers_to (terms_to_ask s.entries) told) documents) s.next (terms_to_ask s.entries) told (will_have t documents coming)
         (λ n. mounted-documents s dir name space (answers_to (terms_to_ask s.entries) told) documents h n ∙ ap (λ (coming : Coming). will_have s documents coming n) (sym is) ∙ same-have documents coming n)
         ∙ ap (λ (count : ℕ). are_told_by (will_have t documents coming) count told) (sym terms))
@@ -111,18 +127,21 @@ module _ (s t : State) (bares : bare s ≡ bare t) where
 
   module _ (mount : ℕ) (documents told : List (List ℕ)) where
     abbrev change : Bool
-    change = is_mount_at t.entries mount && are_documents documents
+    change = is_mount_at t.entries mount && are_documents documents && are_documents_few t.version documents
 
-    same-change : (is_mount_at s.entries mount && are_documents documents) ≡ change
-    same-change = λ i. same-mount s t bares mount i && are_documents documents
+    same-change : (is_mount_at s.entries mount && are_documents documents && are_documents_few s.version documents) ≡ change
+    same-change = λ i. same-mount s t bares mount i && are_documents documents && are_documents_few (same-version i) documents
+
+    abbrev told-synced : Bool
+    told-synced = are_told (synced s mount (answers_to (terms_to_ask s.entries) told) documents) mount (terms_to_ask s.entries) told
 
     pub sync-not : change ≡ false → may_sync s mount documents told ≡ false
-    sync-not fails = ap (λ (b : Bool). b && are_told (synced s mount (answers_to (terms_to_ask s.entries) told) documents) mount (terms_to_ask s.entries) told) (same-change ∙ fails)
+    sync-not fails = between-false (is_mount_at s.entries mount && are_documents documents) told-synced (are_documents_few s.version documents) (same-change ∙ fails)
 
     pub sync-told : IsLayout s → change ≡ true → (coming : Coming) (count : ℕ) → coming.mount ≡ mount → coming.first ≡ t.next → coming.count ≡ length (fresh t mount documents) → count ≡ length (terms_to_ask s.entries) →
         are_told_by (will_have t documents coming) count told ≡ may_sync s mount documents told
     sync-told h fits coming count at first many terms = sym (
-        ap (λ (b : Bool). b && are_told (synced s mount (answers_to (terms_to_ask s.entries) told) documents) mount (terms_to_ask s.entries) told) (same-change ∙ fits)
+        between-true (is_mount_at s.entries mount && are_documents documents) told-synced (are_documents_few s.version documents) (same-change ∙ fits)
         ∙ told-by (synced s mount (answers_to (terms_to_ask s.entries) told) documents) mount (terms_to_ask s.entries) told (will_have t documents coming)
         (λ n. synced-documents s mount (answers_to (terms_to_ask s.entries) told) documents h n ∙ ap (λ (coming : Coming). will_have s documents coming n) (sym is) ∙ same-have documents coming n)
         ∙ ap (λ (count : ℕ). are_told_by (will_have t documents coming) count told) (sym terms))

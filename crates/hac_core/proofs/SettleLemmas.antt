@@ -1,6 +1,6 @@
 -- What becomes of a change once spaces have answered.
 use Rattle.std.proofs.Common.{◌≡◌, ℕ, true, false, List, [], ◌∷◌, ◌++◌, length, subst, refl, ap, sym, ◌∙◌}
-use Rattle.std.specs.Prelude.{None, IsTrue}
+use Rattle.std.specs.Prelude.{IsTrue, None, Option}
 use Rattle.std.specs.Option.{option_map}
 use Rattle.std.proofs.lemmas.Bool.{and_from, and_parts}
 use Rattle.hac_model.specs.Query.Formula.{Formula}
@@ -25,6 +25,9 @@ use Rattle.hac_core.specs.Fitting.{asks_spaces}
 use Rattle.hac_core.specs.Questions.{asks_for}
 use Rattle.hac_core.specs.Settling.{answered, keeping_cause, limits_cause, settling_cause}
 use Rattle.hac_core.specs.declared.drafts.Change.{Change}
+use Rattle.hac_model.proofs.VersionLemmas.{apply-version}
+use Rattle.hac_model.specs.declared.versions.Version.{Version}
+use Rattle.hac_model.specs.declared.limits.LimitWord.{LimitWord}
 
 -- what is told of an event that asks no space is nothing
 pub answering-none : (s : State) (answers : Answers) (e : Event) → asks_spaces e ≡ false → answering s answers e ≡ e
@@ -35,7 +38,7 @@ answering-none s answers (Ssync mount documents told) none = absurd cc
 answering-none s answers other none = refl
 
 -- the event is in the tree still
-pub seated-answering : (s : State) → IsLayout s → (answers : Answers) (e : Event) → is_seated s e ≡ true → AreAnswersTo (asks_for s e) answers → docs_cause answers ≡ None → is_seated s (answering s answers e) ≡ true
+pub seated-answering : (s : State) → IsLayout s → (answers : Answers) (e : Event) → is_seated s e ≡ true → AreAnswersTo (asks_for s e) answers → docs_cause s answers ≡ None → is_seated s (answering s answers e) ≡ true
 seated-answering s h answers (Smkdir dir name query told) seated answered few = seated
 seated-answering s h answers (Setq dir query told) seated answered few = seated
 seated-answering s h answers (Smount dir name space documents told) seated answered few =
@@ -51,10 +54,14 @@ pub unasked-change : (s : State) (answers : Answers) (change : Change) → asks_
 unasked-change s answers change none counted = change-is s change (answering s answers change.event) (sym (answering-none s answers change.event none)) counted
 
 -- only a limit on the next state can stand against it where its documents are few
-pub settling-is : (s : State) (answers : Answers) (e : Event) (change : Change) → change ≡ answered s answers e → docs_cause answers ≡ None → settling_cause s answers e ≡ limits_cause s change
+pub settling-is : (s : State) (answers : Answers) (e : Event) (change : Change) → change ≡ answered s answers e → docs_cause s answers ≡ None → settling_cause s answers e ≡ limits_cause s change
 unfolding passed_limit
 settling-is s answers e change is few =
-    λ i. first_cause (few i ∷ option_map Limit (first_passed (layout_limits (sym is i).counts ++ answer_limits (sym is i).counts)) ∷ keeping_cause s (sym is i).event ∷ [])
+    (λ i. first_cause (few i ∷ option_map Limit (limit_of (apply-version s (answering s answers e) i)) ∷ keeping_cause s (answering s answers e) ∷ []))
+    ∙ (λ i. first_cause (option_map Limit (first_passed (layout_limits s.version (sym is i).counts ++ answer_limits s.version (sym is i).counts)) ∷ keeping_cause s (sym is i).event ∷ []))
+  where
+    limit_of : Version → Option LimitWord
+    limit_of version = first_passed (layout_limits version (counts (apply s (answering s answers e))) ++ answer_limits version (counts (apply s (answering s answers e))))
 
 -- what the answers to an event's questions are
 

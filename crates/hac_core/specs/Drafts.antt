@@ -128,7 +128,7 @@ reads draft = only_reads draft.known
 -- the first cause against an event that nothing blocks: a limit on the tree itself, then a cycle
 abbrev pub change_cause : State → Event → Option Refusal
 change_cause s event =
-    first_cause (option_map Limit (first_passed (layout_limits (counts (apply s event)))) ∷ cycle_against s event ∷ [])
+    first_cause (option_map Limit (first_passed (layout_limits s.version (counts (apply s event)))) ∷ cycle_against s event ∷ [])
 
 -- the outcome of a change: an event that moves a session isn't stored
 abbrev pub settled_change : Change → Settled

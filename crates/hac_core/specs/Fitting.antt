@@ -8,10 +8,12 @@ use Rattle.hac_model.specs.declared.counts.Counts.{Counts}
 use Rattle.hac_model.specs.declared.events.Event.{Event}
 use Rattle.hac_model.specs.declared.events.Event.TheVariants.{Smkdir, Setq, Mark, Smount, Ssync}
 use Rattle.hac_model.specs.declared.states.State.{State}
+use Rattle.hac_model.specs.declared.versions.Version.{Version}
 
--- the counts exceed no limit
-abbrev pub passes_none : Counts → Bool
-passes_none counts = is_none (first_passed (layout_limits counts)) && is_none (first_passed (answer_limits counts))
+-- the counts exceed no limit of a version
+abbrev pub passes_none : Version → Counts → Bool
+passes_none version counts =
+    is_none (first_passed (layout_limits version counts)) && is_none (first_passed (answer_limits version counts))
 
 -- the event asks spaces, or has what one told
 abbrev pub asks_spaces : Event → Bool

@@ -25,9 +25,9 @@ keeping_cause s event = if are_answers_few (apply s event).entries then None els
 -- the first limit that the state would exceed after a change
 abbrev pub limits_cause : State → Change → Option Refusal
 limits_cause s change =
-    first_cause (option_map Limit (first_passed (layout_limits change.counts ++ answer_limits change.counts)) ∷ keeping_cause s change.event ∷ [])
+    first_cause (option_map Limit (first_passed (layout_limits s.version change.counts ++ answer_limits s.version change.counts)) ∷ keeping_cause s change.event ∷ [])
 
 -- the first limit that stands against it
 abbrev pub settling_cause : State → Answers → Event → Option Refusal
 settling_cause s answers event =
-    first_cause (docs_cause answers ∷ option_map Limit (passed_limit (apply s (answering s answers event))) ∷ keeping_cause s (answering s answers event) ∷ [])
+    first_cause (docs_cause s answers ∷ option_map Limit (passed_limit (apply s (answering s answers event))) ∷ keeping_cause s (answering s answers event) ∷ [])

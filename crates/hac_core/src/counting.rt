@@ -6,7 +6,7 @@ ghost use Rattle.hac_model.specs.Tree.Events.{apply};
 ghost use Rattle.hac_model.specs.Tree.Limits.{answer_limits, counts, first_passed, layout_limits};
 ghost use Rattle.file_tree.specs.Seated.{is_seated};
 
-use hac_model::{Counts, Deny, Event, Limit, Refusal, first_passed};
+use hac_model::{Counts, Deny, Event, Limit, Refusal, Version, first_passed};
 use kept_state::KeptState;
 
 /// How much the state would hold after an event. What it refers to is in the tree; spaces may not
@@ -16,6 +16,13 @@ pub fn counts_after(kept: &KeptState, event: &Event) -> Counts
     ensures { result ≡ counts (apply kept.now.state event.now) }
 {
     kept.tree().counts_after(event)
+}
+
+/// The version of the state's store.
+pub fn version(kept: &KeptState) -> Version
+    ensures { result ≡ kept.now.state.version }
+{
+    kept.tree().version()
 }
 
 /// Denies what exceeds a limit, by the first such limit.
@@ -28,13 +35,13 @@ pub fn within(limits: &[Limit]) -> Result<(), Deny>
     }
 }
 
-/// Denies counts that exceed a limit, by the first such limit of all.
-pub fn within_all(counts: Counts) -> Result<(), Deny>
+/// Denies counts that exceed a limit of a version, by the first such limit of all.
+pub fn within_all(version: Version, counts: Counts) -> Result<(), Deny>
     ensures { Passes result (option_map Refusal.Limit
-        (first_passed (layout_limits counts ++ answer_limits counts))) }
+        (first_passed (layout_limits version counts ++ answer_limits version counts))) }
 {
-    match within(&counts.layout_limits()) {
-        Ok(()) => within(&counts.answer_limits()),
+    match within(&counts.layout_limits(version)) {
+        Ok(()) => within(&counts.answer_limits(version)),
         Err(deny) => Err(deny),
     }
 }

@@ -8,7 +8,7 @@ ghost use Rattle.hac_core.specs.Drafts.{IsChange, IsCounted, IsDraftFor, IsKnown
 ghost use Rattle.hac_core.specs.Drafts.{change_cause};
 ghost use Rattle.file_tree.specs.Seated.{is_seated};
 
-use crate::counting::{counts_after, within};
+use crate::counting::{counts_after, version, within};
 use crate::cycles::acyclic;
 use crate::drafts::{Change, Draft, Known};
 use crate::events::{Made, made_by};
@@ -95,6 +95,6 @@ fn permitted(alloc: Global, kept: &KeptState, change: &Change) -> Result<(), Den
     requires { IsCounted kept.now.state change.now }
     ensures { Passes result (change_cause kept.now.state change.now.event) }
 {
-    within(&change.counts.layout_limits())?;
+    within(&change.counts.layout_limits(version(kept)))?;
     acyclic(alloc, kept, &change.event)
 }

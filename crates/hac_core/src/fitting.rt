@@ -11,12 +11,13 @@ ghost use Rattle.hac_core.specs.Fitting.{FitsAs, asks_spaces, passes_none, prohi
 
 use crate::asking::may_ask;
 use crate::blocking::is_inside;
+use crate::counting::version;
 use crate::mounting::{may_mount, may_sync};
 use crate::told::are_all_told;
 use file_tree::Tree;
 use hac_model::{
     Counts, Event, Kind, Mark, Memory, Name, Number, Query, Seq, TARGET_LIMIT, TEXT_LIMIT, Text,
-    first_passed,
+    Version, first_passed,
 };
 use hac_names::{has_long_part, is_bad, is_name, is_space_name};
 use kept_state::KeptState;
@@ -38,7 +39,7 @@ pub fn fits(
         return Ok(None);
     }
     let counts = kept.counts_after(event);
-    if !passes_none(counts) {
+    if !passes_none(version(kept), counts) {
         return Ok(None);
     }
     if is_clear(alloc, kept, event, found)? {
@@ -146,12 +147,12 @@ fn can_have_mark(tree: &Tree, number: Number, kind: Kind) -> bool
     tree.is_item(number) || (tree.is_directory(number) && !kind.is_prohibited())
 }
 
-/// Whether counts exceed no limit.
-fn passes_none(counts: Counts) -> bool
-    ensures { result ≡ passes_none counts }
+/// Whether counts exceed no limit of a version.
+fn passes_none(version: Version, counts: Counts) -> bool
+    ensures { result ≡ passes_none version counts }
 {
-    first_passed(&counts.layout_limits()).is_none()
-        && first_passed(&counts.answer_limits()).is_none()
+    first_passed(&counts.layout_limits(version)).is_none()
+        && first_passed(&counts.answer_limits(version)).is_none()
 }
 
 /// Whether an entry of a name can be put into a directory, which isn't a mount.

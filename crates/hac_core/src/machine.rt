@@ -6,18 +6,19 @@ ghost use Rattle.hac_model.specs.Tree.Events.{apply_all, dirty};
 ghost use Rattle.hac_model.specs.Script.Lines.{is_spelled_line};
 ghost use Rattle.hac_model.specs.Run.Refusals.{cause, early_refusal};
 ghost use Rattle.hac_model.specs.Spaces.Answering.{AreAnswersTo};
-ghost use Rattle.hac_model.specs.Tree.{empty};
+ghost use Rattle.hac_model.specs.Tree.{raised, root_alone};
 ghost use Rattle.hac_model.specs.Tree.Valid.{IsValid};
 ghost use Rattle.hac_core.specs.Drafts.{CanSettle, IsDraft, IsDraftFor, IsDraftOf, Settles, reads};
 ghost use Rattle.hac_core.specs.Drafts.{Shows, settled_events};
 
 use crate::blocking::unblocked;
 use crate::commands::followed;
+use crate::counting::version;
 use crate::drafting::drafted;
 use crate::drafts::{Change, Draft, Known, Settled};
 use crate::settling::settled;
 use crate::showing::shown;
-use hac_model::{Answers, Deny, Event, Line, Memory, Reply, Resolved, Snapshot};
+use hac_model::{Answers, Deny, Event, Line, Memory, Reply, Resolved, Snapshot, Version};
 use kept_links::LinkedState;
 use std::alloc::Global;
 use std::marker::Model;
@@ -43,14 +44,29 @@ impl Model for Machine {
 }
 
 impl Machine {
-    /// The root alone.
-    pub fn new(alloc: Global) -> Result<Machine, Memory>
-        ensures { IfOk result (λ machine. machine ≡ record { state = empty; ready = [] }) }
+    /// The root alone, in a store of a version.
+    pub fn new(alloc: Global, version: Version) -> Result<Machine, Memory>
+        ensures { IfOk result (λ machine. machine ≡
+            record { state = root_alone version; ready = [] }) }
     {
         Ok(Machine {
             alloc,
-            linked: LinkedState::new(alloc)?,
+            linked: LinkedState::new(alloc, version)?,
         })
+    }
+
+    /// The version of the state's store.
+    pub fn version(&self) -> Version
+        ensures { result ≡ self.now.state.version }
+    {
+        version(self.linked.kept())
+    }
+
+    /// The state in a store of version 2. What was prepared is dropped.
+    pub fn raise(&mut self)
+        ensures { self.new ≡ record { state = raised self.old.state; ready = [] } }
+    {
+        self.linked.raise();
     }
 
     /// How many files are dirty.

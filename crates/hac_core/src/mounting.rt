@@ -4,7 +4,8 @@ ghost use Rattle.std.specs.List.{list_all};
 ghost use Rattle.hac_model.specs.Script.SpaceNames.{is_space_name};
 ghost use Rattle.hac_model.specs.Tree.{is_mount_at};
 ghost use Rattle.hac_model.specs.Tree.Events.{is_free, may_mount, may_sync};
-ghost use Rattle.hac_model.specs.Tree.Mounting.{are_documents, do_names_rise, fresh};
+ghost use Rattle.hac_model.specs.Tree.Mounting.{are_documents, are_documents_few, do_names_rise};
+ghost use Rattle.hac_model.specs.Tree.Mounting.{fresh};
 ghost use Rattle.hac_core.specs.Mounting.{are_told_by, is_kept_document, is_one_of};
 ghost use Rattle.hac_core.specs.Mounting.{is_told_by, will_have};
 
@@ -85,16 +86,27 @@ pub fn may_sync(
 /// Whether a mount of a space can come with these documents, what was told aside.
 fn may_come(tree: &Tree, dir: Number, name: &Name, space: &Name, names: &[Name]) -> bool
     ensures { result ≡ is_free tree.now.state dir name.now && is_space_name space.now
-        && are_documents names.now }
+        && are_documents names.now && are_documents_few tree.now.state.version names.now }
 {
-    is_free(tree, dir, name) && is_space_name(space.as_bytes()) && are_documents(names)
+    is_free(tree, dir, name)
+        && is_space_name(space.as_bytes())
+        && are_documents(names)
+        && are_few(tree, names)
 }
 
 /// Whether there is a mount that can have these documents.
 fn may_change(tree: &Tree, mount: Number, names: &[Name]) -> bool
-    ensures { result ≡ is_mount_at tree.now.state.entries mount && are_documents names.now }
+    ensures { result ≡ (is_mount_at tree.now.state.entries mount && are_documents names.now
+        && are_documents_few tree.now.state.version names.now) }
 {
-    tree.is_mount(mount) && are_documents(names)
+    tree.is_mount(mount) && are_documents(names) && are_few(tree, names)
+}
+
+/// Whether a mount may have so many documents.
+fn are_few(tree: &Tree, names: &[Name]) -> bool
+    ensures { result ≡ are_documents_few tree.now.state.version names.now }
+{
+    names.len() as u64 <= tree.version().docs_limit()
 }
 
 /// New documents of a mount.

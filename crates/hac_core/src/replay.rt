@@ -5,13 +5,14 @@ ghost use Rattle.hac_model.specs.Tree.Events.{accepted, apply};
 ghost use Rattle.hac_model.specs.Tree.Sessions.{is_stored};
 ghost use Rattle.hac_model.specs.Tree.Valid.{IsValid};
 ghost use Rattle.hac_model.specs.Tree.ValidTest.{is_valid};
-ghost use Rattle.hac_model.specs.Tree.{empty};
+ghost use Rattle.hac_model.specs.Tree.{root_alone};
 ghost use Rattle.snapshots.specs.declared.reading.LoadFault.TheVariants as fault;
 ghost use Rattle.hac_core.specs.Fitting.{FitsAs, prohibits_found};
 
+use crate::counting::version;
 use crate::fitting::fits;
 use crate::machine::Machine;
-use hac_model::{Counts, Event, Memory, Snapshot};
+use hac_model::{Counts, Event, Memory, Snapshot, Version};
 use kept_links::UnlinkedState;
 use snapshots::LoadFault;
 use std::alloc::Global;
@@ -39,14 +40,21 @@ impl Model for Replay {
 }
 
 impl Replay {
-    /// The root alone.
-    pub fn new(alloc: Global) -> Result<Replay, Memory>
-        ensures { IfOk result (λ replay. replay ≡ empty) }
+    /// The root alone, in a store of a version.
+    pub fn new(alloc: Global, version: Version) -> Result<Replay, Memory>
+        ensures { IfOk result (λ replay. replay ≡ root_alone version) }
     {
         Ok(Replay {
             alloc,
-            unlinked: UnlinkedState::new(alloc)?,
+            unlinked: UnlinkedState::new(alloc, version)?,
         })
+    }
+
+    /// The version of the state's store.
+    pub fn version(&self) -> Version
+        ensures { result ≡ self.now.version }
+    {
+        version(self.unlinked.kept())
     }
 
     /// The state that a snapshot tells, for events to go on from. The snapshot may be any, as one

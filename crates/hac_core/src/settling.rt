@@ -11,12 +11,10 @@ ghost use Rattle.hac_core.specs.Questions.{asks_for};
 ghost use Rattle.hac_core.specs.Settling.{answered, keeping_cause, limits_cause, settling_cause};
 ghost use Rattle.file_tree.specs.Seated.{is_seated};
 
-use crate::counting::{counts_after, within_all};
+use crate::counting::{counts_after, version, within_all};
 use crate::drafts::{Change, Settled};
 use crate::numbers::{mounting, syncing};
-use hac_model::{
-    Answers, DOCS_LIMIT, Deny, Event, LimitWord, Memory, Name, Number, Query, Refusal,
-};
+use hac_model::{Answers, Deny, Event, LimitWord, Memory, Name, Number, Query, Refusal};
 use kept_state::KeptState;
 use std::alloc::Global;
 use tree_answers::told_for;
@@ -31,13 +29,13 @@ pub fn settled(
     requires seated { IsTrue (is_seated kept.now.state change.event) }
     requires counted { IsCounted kept.now.state change }
     requires answered { AreAnswersTo (asks_for kept.now.state change.event) answers }
-    requires placed { docs_cause answers ≡ None →
+    requires placed { docs_cause kept.now.state answers ≡ None →
         IsTrue (is_placed kept.now.state (answering kept.now.state answers change.event)) }
     ensures settled { IfOk result (λ settled. settled
         ≡ settled_change (answered kept.now.state answers change.event)) }
     ensures limits { Passes result (settling_cause kept.now.state answers change.event) }
 {
-    match few_documents(&answers) {
+    match few_documents(kept, &answers) {
         Ok(()) => settled_few(alloc, kept, change, answers),
         Err(deny) => {
             drop(change);
@@ -48,10 +46,10 @@ pub fn settled(
 }
 
 /// Denies more documents than a mount may have.
-fn few_documents(answers: &Answers) -> Result<(), Deny>
-    ensures { Passes result (docs_cause answers.now) }
+fn few_documents(kept: &KeptState, answers: &Answers) -> Result<(), Deny>
+    ensures { Passes result (docs_cause kept.now.state answers.now) }
 {
-    if answers.list.as_slice().len() as u64 <= DOCS_LIMIT {
+    if answers.list.as_slice().len() as u64 <= version(kept).docs_limit() {
         return Ok(());
     }
     Err(Deny::Refused(Refusal::Limit(LimitWord::Docs)))
@@ -67,7 +65,7 @@ fn settled_few(
     requires seated { IsTrue (is_seated kept.now.state change.event) }
     requires counted { IsCounted kept.now.state change }
     requires answered { AreAnswersTo (asks_for kept.now.state change.event) answers }
-    requires few { docs_cause answers ≡ None }
+    requires few { docs_cause kept.now.state answers ≡ None }
     requires placed { IsTrue (is_placed kept.now.state
         (answering kept.now.state answers change.event)) }
     ensures settled { IfOk result (λ settled. settled
@@ -89,7 +87,7 @@ fn within_limits(kept: &KeptState, change: &Change) -> Result<(), Deny>
     requires { IsTrue (is_placed kept.now.state change.now.event) }
     ensures { Passes result (limits_cause kept.now.state change.now) }
 {
-    within_all(change.counts)?;
+    within_all(version(kept), change.counts)?;
     few_answers(kept, &change.event)
 }
 
@@ -114,7 +112,7 @@ fn answered(
     requires seated { IsTrue (is_seated kept.now.state change.event) }
     requires counted { IsCounted kept.now.state change }
     requires answered { AreAnswersTo (asks_for kept.now.state change.event) answers }
-    requires few { docs_cause answers ≡ None }
+    requires few { docs_cause kept.now.state answers ≡ None }
     ensures { IfOk result (λ change_now. change_now
         ≡ answered kept.now.state answers change.event) }
 {

@@ -1,10 +1,10 @@
 -- Lengths of records, and records one by one.
-use Rattle.std.proofs.Common.{◌≡◌, ℕ, zero, suc, ◌+◌, ◌-◌, ◌<◌, List, [], ◌∷◌, ◌++◌, length, take, drop, get_or, refl, sym, ◌∙◌, ap, arith, append_assoc, length-append, Vec}
+use Rattle.std.proofs.Common.{◌≡◌, ℕ, zero, suc, ◌+◌, ◌-◌, ◌<◌, ◌^◌, List, [], ◌∷◌, ◌++◌, length, take, drop, get_or, refl, sym, ◌∙◌, ap, arith, append_assoc, length-append, Vec}
 use Rattle.std.specs.declared.alloc.Global.{Global}
 use Rattle.std.proofs.lemmas.List.{take_more, take_rest, append-nil}
 use Rattle.byteorder.specs.Endian.{little_bytes}
 use Rattle.byteorder.specs.Numbers.{length-bytes_low_first}
-use Rattle.hac_journal.specs.Records.{record_of, records_of, log_of, contents_of}
+use Rattle.hac_journal.specs.Records.{AreShort, record_of, records_of, log_of, contents_of}
 
 pub length-record : (payload : List ℕ) → length (record_of payload) ≡ 5 + length payload
 unfolding record_of
@@ -39,13 +39,11 @@ pub length_taken : (vs : List (Vec ℕ Global)) (i : ℕ) (d : Vec ℕ Global) �
 length_taken vs i d below =
     omega (arith, ap length (records_taken vs i d below), length-append (records_of (contents_of (take i vs))) (record_of (get_or vs i d).items), length-record (get_or vs i d).items)
 
--- each payload is shorter than all of the log
-pub payload_within : (vs : List (Vec ℕ Global)) (i : ℕ) (d : Vec ℕ Global) → i < length vs → length (get_or vs i d).items < length (log_of (contents_of vs))
-payload_within [] i d below = absurd (omega arith)
-payload_within (v ∷ vs) zero d below =
-    omega (arith, length-log (contents_of (v ∷ vs)), length-append (record_of v.items) (records_of (contents_of vs)), length-record v.items)
-payload_within (v ∷ vs) (suc i) d below =
-    omega (arith, payload_within vs i d (omega arith), length-log (contents_of (v ∷ vs)), length-log (contents_of vs), length-append (record_of v.items) (records_of (contents_of vs)))
+-- each of short payloads is short
+pub short-at : (vs : List (Vec ℕ Global)) (i : ℕ) (d : Vec ℕ Global) → i < length vs → AreShort (contents_of vs) → length (get_or vs i d).items < 2 ^ 32
+short-at [] i d below short = absurd (omega arith)
+short-at (v ∷ vs) zero d below short = short.0
+short-at (v ∷ vs) (suc i) d below short = short-at vs i d (omega arith) short.1
 
 -- the records of one payload or more begin with an open gate
 pub log-opens : (payloads : List (List ℕ)) → 0 < length payloads → 1 ∷ drop 1 (log_of payloads) ≡ log_of payloads

@@ -1,5 +1,6 @@
 -- Records, as a file has them, one behind the other.
-use Rattle.std.specs.Prelude.{ℕ, List, [], ◌∷◌, ◌++◌, length, map, Vec}
+use Rattle.std.specs.Prelude.{ℕ, ◌<◌, ◌^◌, List, [], ◌∷◌, ◌++◌, length, map, Vec}
+use Rattle.std.specs.List.{AllByRecursion}
 use Rattle.std.specs.declared.alloc.Global.{Global}
 use Rattle.byteorder.specs.Endian.{little_bytes}
 
@@ -19,3 +20,7 @@ log_of payloads = records_of payloads ++ 0 ∷ []
 -- the bytes of each
 abbrev pub contents_of : List (Vec ℕ Global) → List (List ℕ)
 contents_of payloads = map (λ payload. payload.items) payloads
+
+-- a payload's length has four bytes, and so each payload is this short
+abbrev pub AreShort : List (List ℕ) → Type 0
+AreShort payloads = AllByRecursion (λ payload. length payload < 2 ^ 32) payloads

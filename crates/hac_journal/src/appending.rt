@@ -1,11 +1,11 @@
 //! Putting records behind a log, all of them or none.
-ghost use Rattle.std.specs.Prelude.{◌≡◌, ◌⊎◌, ◌+◌, ◌<◌, ◌≤◌, ◌^◌, ◌↔◌, List, ℕ, IfOk, IfSome};
+ghost use Rattle.std.specs.Prelude.{◌≡◌, ◌⊎◌, ◌+◌, ◌<◌, ◌≤◌, ◌↔◌, List, ℕ, IfOk, IfSome};
 ghost use Rattle.std.specs.Prelude.{IsErrOf, OnOk, length};
 ghost use Rattle.hac_outside.specs.Causes.{Rose};
 ghost use Rattle.hac_disk.specs.Images.{LeavesOnly};
 ghost use Rattle.hac_disk.specs.Contents.{HasByteAt, IsSettled, Written};
 ghost use Rattle.hac_journal.specs.Appending.{Appending, ClosedAt};
-ghost use Rattle.hac_journal.specs.Records.{contents_of, log_of, records_of};
+ghost use Rattle.hac_journal.specs.Records.{AreShort, contents_of, log_of, records_of};
 
 use super::fault::JournalFault;
 use super::records::{OPEN, log_bytes, log_end};
@@ -15,7 +15,8 @@ use std::alloc::Global;
 /// Puts records of these payloads behind the log that ends at `end`, and answers the log's new end.
 /// All but the first gate is written and synced behind the gate that is closed; then the first gate
 /// is opened and synced: so a crash leaves none of the records, or all. `Full` and `Memory` come
-/// before any write. The log and the closed gate behind it end within `limit` bytes.
+/// before any write. The log and the closed gate behind it end within `limit` bytes. Each payload is
+/// so short that its length has four bytes.
 pub fn append<D: Disk>(
     alloc: Global,
     disk: &mut D,
@@ -24,7 +25,7 @@ pub fn append<D: Disk>(
     payloads: &[Vec<u8>],
 ) -> Result<u64, JournalFault>
     requires some { 0 < length payloads.now }
-    requires limit { limit ≤ 2 ^ 32 }
+    requires short { AreShort (contents_of payloads.now) }
     requires place { HasByteAt (D.seen disk.old) end }
     ensures end { IfOk result (λ new. new ≡ end + length (records_of (contents_of payloads.now))) }
     ensures written { OnOk result (Written (D.seen disk.old) end (log_of (contents_of payloads.now))

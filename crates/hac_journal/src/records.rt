@@ -1,6 +1,6 @@
 //! The bytes of records.
 ghost use Rattle.std.specs.Prelude.{◌≡◌, ◌+◌, ◌<◌, ◌≤◌, ◌^◌, ◌++◌, IfOk, MatchOption, OnOk, length};
-ghost use Rattle.hac_journal.specs.Records.{contents_of, log_of, record_of, records_of};
+ghost use Rattle.hac_journal.specs.Records.{AreShort, contents_of, log_of, record_of, records_of};
 
 use std::alloc::{AllocError, AllocFailed, Global};
 
@@ -25,7 +25,7 @@ pub(crate) fn log_end(limit: u64, end: u64, payloads: &[Vec<u8>]) -> Option<u64>
 
 // The bytes of the records, and the closed gate behind them.
 pub(crate) fn log_bytes(alloc: Global, payloads: &[Vec<u8>]) -> Result<Vec<u8>, AllocError>
-    requires { length (log_of (contents_of payloads.now)) ≤ 2 ^ 32 }
+    requires { AreShort (contents_of payloads.now) }
     ensures { IfOk result (λ bytes. bytes.items ≡ log_of (contents_of payloads.now)) }
 {
     let mut bytes = Vec::new(alloc);

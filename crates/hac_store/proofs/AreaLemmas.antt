@@ -1,5 +1,5 @@
 -- Areas, as they are read from their first gate on.
-use Rattle.std.proofs.Common.{◌≡◌, ℕ, ◌+◌, ◌<◌, ◌≤◌, Bool, true, false, if◌then◌else◌, List, length, take, Result, Ok, Err, refl, sym, ◌∙◌, ap, subst, arith}
+use Rattle.std.proofs.Common.{◌≡◌, ◌⊎◌, inl, inr, ℕ, ◌+◌, ◌<◌, ◌≤◌, None, Bool, true, false, if◌then◌else◌, List, length, take, Result, Ok, Err, refl, sym, ◌∙◌, ap, subst, arith}
 use Rattle.hac_checkpoint.specs.Areas.{HaveSame}
 use Rattle.hac_checkpoint.specs.declared.areas.Area.{Area}
 use Rattle.hac_checkpoint.specs.declared.heads.Stop.{Stop}
@@ -11,59 +11,79 @@ use Rattle.hac_journal.proofs.CrashLemmas.{front-less}
 use Rattle.hac_journal.proofs.LawLemmas.{closed-is-found, found-along, found-is-closed, found-is-whole}
 use Rattle.hac_model.specs.Payload.Payloads.{event_text, spelled}
 use Rattle.hac_model.specs.Payload.States.{restored, spelled_snapshot}
-use Rattle.hac_model.specs.Tree.{empty}
-use Rattle.hac_model.specs.Tree.Sessions.{stored}
+use Rattle.hac_model.specs.Tree.{empty, root_alone}
+use Rattle.hac_model.specs.Tree.Limits.{first_passed, passed_limit}
+use Rattle.hac_model.specs.Tree.Sessions.{sessionless}
 use Rattle.hac_model.specs.Tree.Valid.{IsValid}
 use Rattle.hac_model.specs.Tree.ValidTest.{is_valid}
 use Rattle.hac_model.specs.declared.events.Event.{Event}
 use Rattle.hac_model.specs.declared.snapshots.Snapshot.{Snapshot}
 use Rattle.hac_model.specs.declared.states.State.{State}
-use Rattle.hac_model.proofs.AcyclicLemmas.{empty-valid}
+use Rattle.hac_model.specs.declared.versions.Version.{Version}
+use Rattle.hac_model.specs.declared.versions.Version.TheVariants.{One, Two}
 use Rattle.hac_model.proofs.ValidTestLemmas.{valid-Decides}
-use Rattle.hac_store.specs.Held.{Log, after_first, after_payload, after_snapshot, area, area_with, go_on, is_state, log}
+use Rattle.hac_model.proofs.VersionLemmas.{none-few}
+use Rattle.hac_store.specs.Held.{Log, after_first, after_payload, after_snapshot, area, area_with, first_version, go_on, is_state, log}
 use Rattle.hac_store.proofs.LogLemmas.{go-parts, log-closed, log-ends, log-short, log-stored, log-valid, log-whole}
 
 pub area-found : (at : ℕ) (file : List ℕ) (found : Found) → found_at at file ≡ found → area at file ≡ area_with at file found
 unfolding area
 area-found at file found is = ap (area_with at file) is
 
--- no whole state is at the place
-abbrev pub HasNoState : ℕ → List ℕ → Type 0
-HasNoState at file = (payload : List ℕ) (behind : ℕ) → found_at at file ≡ Whole payload behind → is_state payload ≡ false
+-- a record that is at the place holds an event, and tells this version
+abbrev pub GoesOn : Version → ℕ → List ℕ → Type 0
+GoesOn version at file =
+    (payload : List ℕ) (behind : ℕ) → found_at at file ≡ Whole payload behind → (is_state payload ≡ false) × (first_version payload ≡ version)
 
--- nor is it where nothing is
-pub closed-stateless : (at : ℕ) (file : List ℕ) → found_at at file ≡ Closed → HasNoState at file
-closed-stateless at file closed payload behind whole = let never : Closed ≡ Whole payload behind = sym closed ∙ whole in absurd cc
+-- so it is where nothing is
+pub closed-goes : (version : Version) (at : ℕ) (file : List ℕ) → found_at at file ≡ Closed → GoesOn version at file
+closed-goes version at file closed payload behind whole = let never : Closed ≡ Whole payload behind = sym closed ∙ whole in absurd cc
 
--- or where a payload is that is none
-pub event-stateless : (at : ℕ) (file payload : List ℕ) (behind : ℕ) → found_at at file ≡ Whole payload behind → is_state payload ≡ false → HasNoState at file
-event-stateless at file payload behind found none other next whole =
+-- and where such a payload is
+pub event-goes : (version : Version) (at : ℕ) (file payload : List ℕ) (behind : ℕ) → found_at at file ≡ Whole payload behind
+    → (is_state payload ≡ false) × (first_version payload ≡ version) → GoesOn version at file
+event-goes version at file payload behind found kind other next whole =
     let same : Whole payload behind ≡ Whole other next = sym found ∙ whole in
     let one : payload ≡ other = cc in
-    ap is_state (sym one) ∙ none
+    subst (λ (p : List ℕ). (is_state p ≡ false) × (first_version p ≡ version)) one kind
 
--- the payload of an event is that of no state
-pub event-no_state : (event : Event) → is_state (event_text event) ≡ false
+-- the payload of an event is that of no state, and tells its version
+pub event-kind : (version : Version) (event : Event) → (is_state (event_text version event) ≡ false) × (first_version (event_text version event) ≡ version)
 unfolding event_text
-event-no_state event = refl
+event-kind One event = (refl, refl)
+event-kind Two event = (refl, refl)
 
-first-event : (at : ℕ) (payload : List ℕ) → is_state payload ≡ false → after_first at payload ≡ after_payload empty at (spelled payload)
-first-event at payload none = ap (λ (b : Bool). if b then after_snapshot at (spelled_snapshot payload) else after_payload empty at (spelled payload)) none
+first-event : (at : ℕ) (payload : List ℕ) → is_state payload ≡ false → after_first at payload ≡ after_payload (root_alone (first_version payload)) at (spelled (first_version payload) payload)
+first-event at payload none =
+    ap (λ (b : Bool). if b then after_snapshot at (spelled_snapshot payload) else after_payload (root_alone (first_version payload)) at (spelled (first_version payload) payload)) none
 
 first-state : (at : ℕ) (payload : List ℕ) → is_state payload ≡ true → after_first at payload ≡ after_snapshot at (spelled_snapshot payload)
-first-state at payload is = ap (λ (b : Bool). if b then after_snapshot at (spelled_snapshot payload) else after_payload empty at (spelled payload)) is
+first-state at payload is =
+    ap (λ (b : Bool). if b then after_snapshot at (spelled_snapshot payload) else after_payload (root_alone (first_version payload)) at (spelled (first_version payload) payload)) is
 
--- then an area is a log of the root alone
-pub area-stateless : (at : ℕ) (file : List ℕ) → HasNoState at file → area at file ≡ log empty at file
-area-stateless at file none = by (found_at at file) refl
+-- an area that begins with an event is a log of the root alone, in the version that its payload tells
+pub area-event : (at : ℕ) (file payload : List ℕ) (behind : ℕ) → found_at at file ≡ Whole payload behind → is_state payload ≡ false
+    → area at file ≡ log (root_alone (first_version payload)) at file
+area-event at file payload behind found none =
+    area-found at file (Whole payload behind) found
+    ∙ ap (λ (r : Result State Stop). go_on r (λ new. log new behind file)) (first-event at payload none)
+    ∙ sym (log-whole (root_alone (first_version payload)) at file payload behind found)
+
+-- where no record is, it is a log of what a new store holds
+pub area-none : (at : ℕ) (file : List ℕ) → (found_at at file ≡ Closed) ⊎ (found_at at file ≡ Short) → area at file ≡ log empty at file
+area-none at file (inl closed) = area-found at file Closed closed ∙ sym (log-closed empty at file closed)
+area-none at file (inr short) = area-found at file Short short ∙ sym (log-short empty at file short)
+
+-- and where one is of that version
+area-goes : (at : ℕ) (file : List ℕ) → GoesOn Two at file → area at file ≡ log empty at file
+area-goes at file goes = by (found_at at file) refl
   where
     by : (found : Found) → found_at at file ≡ found → area at file ≡ log empty at file
-    by Short is = area-found at file Short is ∙ sym (log-short empty at file is)
-    by Closed is = area-found at file Closed is ∙ sym (log-closed empty at file is)
+    by Short is = area-none at file (inr is)
+    by Closed is = area-none at file (inl is)
     by (Whole payload behind) is =
-        area-found at file (Whole payload behind) is
-        ∙ ap (λ (r : Result State Stop). go_on r (λ new. log new behind file)) (first-event at payload (none payload behind is))
-        ∙ sym (log-whole empty at file payload behind is)
+        let kind = goes payload behind is in
+        area-event at file payload behind is kind.0 ∙ ap (λ (version : Version). log (root_alone version) at file) kind.1
 
 -- an area with a whole state is a log of that
 pub area-state : (at : ℕ) (file payload : List ℕ) (behind : ℕ) → found_at at file ≡ Whole payload behind → is_state payload ≡ true →
@@ -77,12 +97,12 @@ area-closed at file is = area-found at file Closed is
 pub area-short : (at : ℕ) (file : List ℕ) → found_at at file ≡ Short → area at file ≡ Err stop.Short
 area-short at file is = area-found at file Short is
 
--- an area that was read ends at a closed gate, goes on in a file that agrees up to there and has no state there, and is
--- the same in a file that has the same in it
+-- an area that was read ends at a closed gate, goes on in a file that agrees up to there and has an event of its version
+-- there, and is the same in a file that has the same in it
 pub record AreaEnds (at : ℕ) (d : List ℕ) (l : Log) : Type 0 where
   pub closed : ClosedAt l.end d
   pub behind : at ≤ l.end
-  pub along : (c : List ℕ) → take l.end c ≡ take l.end d → l.end < length c → HasNoState l.end c → area at c ≡ log l.state l.end c
+  pub along : (c : List ℕ) → take l.end c ≡ take l.end d → l.end < length c → GoesOn l.state.version l.end c → area at c ≡ log l.state l.end c
   pub kept : (place : Area) (c : List ℕ) → HaveSame place c d → place.start ≤ at → l.end ≤ place.end → area at c ≡ Ok l
 
 pub area-ends : (at : ℕ) (d : List ℕ) (l : Log) → area at d ≡ Ok l → AreaEnds at d l
@@ -97,7 +117,7 @@ area-ends at d l is = by (found_at at d) refl
         (record {
           closed = found-is-closed at d found;
           behind = omega arith;
-          along = λ c front long none. area-stateless at c none;
+          along = λ c front long goes. area-goes at c goes;
           kept = λ place c same low high. area-closed at c (closed-is-found at c (closed-gates-are-kept place at c d same low high (found-is-closed at d found)));
         })
     by (Whole payload behind) found =
@@ -107,7 +127,7 @@ area-ends at d l is = by (found_at at d) refl
         record {
           closed = ends.closed;
           behind = omega (arith, whole.0, ends.behind);
-          along = λ c front long none.
+          along = λ c front long goes.
               let again = found-along at behind payload c d found (front-less c d behind l.end ends.behind front) (omega (arith, ends.behind, long)) in
               area-found at c (Whole payload behind) again ∙ ap (λ (r : Result State Stop). go_on r (λ next. log next behind c)) parts.1 ∙ ends.along c front long;
           kept = λ place c same low high.
@@ -117,34 +137,50 @@ area-ends at d l is = by (found_at at d) refl
         }
 
 -- a state that was read is valid, and is in no session
-snapshot-sound : (at : ℕ) (r : Result Snapshot ℕ) (new : State) → after_snapshot at r ≡ Ok new → IsValid new × (stored new ≡ new)
+snapshot-sound : (at : ℕ) (r : Result Snapshot ℕ) (new : State) → after_snapshot at r ≡ Ok new → IsValid new × (sessionless new ≡ new)
 unfolding restored
 snapshot-sound at (Err offset) new is = absurd cc
 snapshot-sound at (Ok snapshot) new is = tested (is_valid (restored snapshot)) refl is
   where
-    tested : (b : Bool) → is_valid (restored snapshot) ≡ b → (if b then Ok (restored snapshot) else Err (stop.BadAt (at + 5))) ≡ Ok new → IsValid new × (stored new ≡ new)
+    tested : (b : Bool) → is_valid (restored snapshot) ≡ b → (if b then Ok (restored snapshot) else Err (stop.BadAt (at + 5))) ≡ Ok new → IsValid new × (sessionless new ≡ new)
     tested true valid is =
         let same : restored snapshot ≡ new = cc in
-        subst (λ (s : State). IsValid s × (stored s ≡ s)) same ((valid-Decides (restored snapshot)).0 valid, refl)
+        subst (λ (s : State). IsValid s × (sessionless s ≡ s)) same ((valid-Decides (restored snapshot)).0 valid, refl)
     tested false valid is = absurd cc
 
+-- the root alone is valid in each version
+pub alone-valid : (version : Version) → IsValid (root_alone version)
+unfolding passed_limit first_passed
+alone-valid version = record {
+  layout = record { numbers = omega arith; names = tt; places = tt; differ = tt; bodies = tt; limits = none version };
+  queries = tt;
+  answers = tt;
+  few = refl;
+  acyclic = λ steps dir back. back.1;
+  sessions = record { names = tt; differ = tt; there = tt; elsewhere = tt; few = none-few version };
+}
+  where
+    none : (version : Version) → passed_limit (root_alone version) ≡ None
+    none One = refl
+    none Two = refl
+
 -- what an area leads to is valid, and is in no session
-pub area-sound : (at : ℕ) (d : List ℕ) (l : Log) → area at d ≡ Ok l → IsValid l.state × (stored l.state ≡ l.state)
+pub area-sound : (at : ℕ) (d : List ℕ) (l : Log) → area at d ≡ Ok l → IsValid l.state × (sessionless l.state ≡ l.state)
 area-sound at d l is = by (found_at at d) refl
   where
-    of_log : HasNoState at d → IsValid l.state × (stored l.state ≡ l.state)
-    of_log none = let read = sym (area-stateless at d none) ∙ is in (log-valid empty at d l empty-valid read, log-stored empty at d l empty-valid refl read)
+    of_log : (version : Version) → log (root_alone version) at d ≡ Ok l → IsValid l.state × (sessionless l.state ≡ l.state)
+    of_log version read = (log-valid (root_alone version) at d l (alone-valid version) read, log-stored (root_alone version) at d l (alone-valid version) refl read)
 
-    of_state : (payload : List ℕ) (behind : ℕ) → found_at at d ≡ Whole payload behind → is_state payload ≡ true → IsValid l.state × (stored l.state ≡ l.state)
+    of_state : (payload : List ℕ) (behind : ℕ) → found_at at d ≡ Whole payload behind → is_state payload ≡ true → IsValid l.state × (sessionless l.state ≡ l.state)
     of_state payload behind found state =
         let parts = go-parts (after_snapshot at (spelled_snapshot payload)) (λ new. log new behind d) l (sym (area-state at d payload behind found state) ∙ is) in
         let sound = snapshot-sound at (spelled_snapshot payload) parts.0 parts.1 in
         (log-valid parts.0 behind d l sound.0 parts.2, log-stored parts.0 behind d l sound.0 sound.1 parts.2)
 
-    by : (found : Found) → found_at at d ≡ found → IsValid l.state × (stored l.state ≡ l.state)
+    by : (found : Found) → found_at at d ≡ found → IsValid l.state × (sessionless l.state ≡ l.state)
     by Short found = let never = sym (area-short at d found) ∙ is in absurd cc
-    by Closed found = of_log (closed-stateless at d found)
-    by (Whole payload behind) found = elim (is_state payload) as (λ b. is_state payload ≡ b → IsValid l.state × (stored l.state ≡ l.state)) [
+    by Closed found = of_log Two (sym (area-none at d (inl found)) ∙ is)
+    by (Whole payload behind) found = elim (is_state payload) as (λ b. is_state payload ≡ b → IsValid l.state × (sessionless l.state ≡ l.state)) [
       | true ↦ (λ state. of_state payload behind found state)
-      | false ↦ (λ event. of_log (event-stateless at d payload behind found event))
+      | false ↦ (λ event. of_log (first_version payload) (sym (area-event at d payload behind found event) ∙ is))
     ] refl

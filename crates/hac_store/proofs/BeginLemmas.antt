@@ -1,24 +1,26 @@
 -- Where an area begins, as it is read.
-use Rattle.std.proofs.Common.{◌≡◌, ℕ, ◌+◌, true, false, Bool, if◌then◌else◌, List, None, Some, IfErr, IfOk, IfSome, Result, Ok, Err, sym, ◌∙◌, ap, subst}
+use Rattle.std.proofs.Common.{◌≡◌, inl, inr, ℕ, ◌+◌, true, false, Bool, if◌then◌else◌, List, None, Some, IfErr, IfOk, IfSome, Result, Ok, Err, sym, ◌∙◌, ap, subst}
 use Rattle.std.specs.declared.option.Option.{Option}
 use Rattle.hac_checkpoint.specs.Roots.{placed}
 use Rattle.hac_checkpoint.specs.declared.heads.Stop.{Stop}
 use Rattle.hac_checkpoint.specs.declared.heads.Stop.TheVariants as stop
-use Rattle.hac_journal.specs.Finding.{Short, TellsAt, Whole, found_at}
+use Rattle.hac_journal.specs.Finding.{TellsAt, Whole, found_at}
 use Rattle.hac_journal.specs.declared.finding.Next.TheVariants.{End, Bad}
 use Rattle.hac_model.specs.Payload.States.{restored, spelled_snapshot}
-use Rattle.hac_model.specs.Tree.{empty}
+use Rattle.hac_model.specs.Tree.{empty, root_alone}
 use Rattle.hac_model.specs.Tree.Valid.{IsValid}
 use Rattle.hac_model.specs.Tree.ValidTest.{is_valid}
 use Rattle.hac_model.specs.declared.snapshots.Snapshot.{Snapshot}
 use Rattle.hac_model.specs.declared.states.State.{State}
+use Rattle.hac_model.specs.declared.versions.Version.{Version}
+use Rattle.hac_model.specs.declared.versions.Version.TheVariants.{Two}
 use Rattle.hac_model.proofs.ValidTestLemmas.{valid-Decides}
-use Rattle.hac_store.specs.Held.{after_snapshot, area, go_on, is_state, log}
+use Rattle.hac_store.specs.Held.{after_snapshot, area, first_version, go_on, is_state, log}
 use Rattle.hac_store.specs.Reading.{BeginsArea, JudgesState}
 use Rattle.hac_store.specs.declared.areas.Begun.{Begun}
 use Rattle.hac_store.specs.declared.fault.StoreFault.{StoreFault}
 use Rattle.hac_store.specs.declared.fault.StoreFault.TheVariants as fault
-use Rattle.hac_store.proofs.AreaLemmas.{HasNoState, area-state, area-stateless, closed-stateless, event-stateless}
+use Rattle.hac_store.proofs.AreaLemmas.{area-event, area-none, area-state}
 
 -- the state of a snapshot that was read
 pub state-read : (at : ℕ) (r : Result Snapshot ℕ) (snapshot : Snapshot) (s : State) → r ≡ Ok snapshot → s ≡ restored snapshot → IsValid s → after_snapshot at r ≡ Ok s
@@ -44,26 +46,25 @@ pub begun-state : (at : ℕ) (file payload : List ℕ) (behind : ℕ) (s : State
 begun-state at file payload behind s found is judges =
     area-state at file payload behind found is ∙ ap (λ (r : Result State Stop). go_on r (λ new. log new behind file)) judges
 
--- any other goes on from the root alone
-pub begun-empty : (at : ℕ) (file : List ℕ) (result : Result Begun StoreFault) → HasNoState at file → IfOk result (λ begun. begun ≡ record { replay = empty; at = at })
+-- any other goes on from the root alone, in a version
+begun-alone : (version : Version) (at : ℕ) (file : List ℕ) (result : Result Begun StoreFault) → area at file ≡ log (root_alone version) at file
+    → IfOk result (λ begun. begun ≡ record { replay = root_alone version; at = at })
     → IfErr result (λ why. why ≡ fault.Memory) → BeginsArea result file (area at file)
-begun-empty at file (Ok begun) none is memory = area-stateless at file none ∙ ap (λ (b : Begun). log b.replay b.at file) (sym is)
-begun-empty at file (Err why) none is memory = subst (λ (w : StoreFault). BeginsArea (Err w) file (area at file)) (sym memory) tt
+begun-alone version at file (Ok begun) leads is memory = leads ∙ ap (λ (b : Begun). log b.replay b.at file) (sym is)
+begun-alone version at file (Err why) leads is memory = subst (λ (w : StoreFault). BeginsArea (Err w) file (area at file)) (sym memory) tt
 
 pub begun-event : (at : ℕ) (file payload : List ℕ) (behind : ℕ) (result : Result Begun StoreFault) → found_at at file ≡ Whole payload behind → is_state payload ≡ false
-    → IfOk result (λ begun. begun ≡ record { replay = empty; at = at }) → IfErr result (λ why. why ≡ fault.Memory) → BeginsArea result file (area at file)
-begun-event at file payload behind result found none is memory = begun-empty at file result (event-stateless at file payload behind found none) is memory
-
-short-stateless : (at : ℕ) (file : List ℕ) → found_at at file ≡ Short → HasNoState at file
-short-stateless at file short payload behind whole = let never : Short ≡ Whole payload behind = sym short ∙ whole in absurd cc
+    → IfOk result (λ begun. begun ≡ record { replay = root_alone (first_version payload); at = at })
+    → IfErr result (λ why. why ≡ fault.Memory) → BeginsArea result file (area at file)
+begun-event at file payload behind result found none is memory = begun-alone (first_version payload) at file result (area-event at file payload behind found none) is memory
 
 -- the same of a disk that tells its bytes
 pub begins-closed : (seen : Option (List ℕ)) (at : ℕ) (result : Result Begun StoreFault) → TellsAt End at seen → IfOk result (λ begun. begun ≡ record { replay = empty; at = at })
     → IfErr result (λ why. why ≡ fault.Memory) → IfSome seen (λ file. BeginsArea result file (area at file))
 begins-closed None at result tells is memory = tt
-begins-closed (Some file) at result tells is memory = begun-empty at file result (closed-stateless at file tells) is memory
+begins-closed (Some file) at result tells is memory = begun-alone Two at file result (area-none at file (inl tells)) is memory
 
 pub begins-short : (seen : Option (List ℕ)) (at place : ℕ) (result : Result Begun StoreFault) → TellsAt (Bad place) at seen → IfOk result (λ begun. begun ≡ record { replay = empty; at = at })
     → IfErr result (λ why. why ≡ fault.Memory) → IfSome seen (λ file. BeginsArea result file (area at file))
 begins-short None at place result tells is memory = tt
-begins-short (Some file) at place result tells is memory = begun-empty at file result (short-stateless at file tells.0) is memory
+begins-short (Some file) at place result tells is memory = begun-alone Two at file result (area-none at file (inr tells.0)) is memory

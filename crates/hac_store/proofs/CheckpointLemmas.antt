@@ -1,5 +1,5 @@
 -- What a file holds while a state is written as a new area and the root flips to it.
-use Rattle.std.proofs.Common.{◌≡◌, inl, ℕ, ◌+◌, ◌-◌, ◌<◌, ◌≤◌, ◌^◌, Bool, true, false, ◌&&◌, nat_lt, if◌then◌else◌}
+use Rattle.std.proofs.Common.{◌≡◌, inl, ℕ, ◌+◌, ◌-◌, ◌<◌, ◌≤◌, ◌^◌, Bool, true, false, ◌&&◌, ◌||◌, ◌==◌, nat_lt, if◌then◌else◌}
 use Rattle.std.proofs.Common.{List, [], ◌∷◌, length, None, Some, Result, Ok, Err, refl, sym, ◌∙◌, ap, subst, arith}
 use Rattle.std.proofs.Common.{length-append}
 use Rattle.std.specs.declared.option.Option.{Option}
@@ -18,14 +18,18 @@ use Rattle.hac_checkpoint.specs.declared.heads.Stop.TheVariants as stop
 use Rattle.hac_checkpoint.proofs.ApartLemmas.{areas-are-found, new-areas-lie-apart}
 use Rattle.hac_checkpoint.proofs.ApartLemmas.{writes-leave-areas, writes-leave-roots}
 use Rattle.hac_checkpoint.proofs.HeadLemmas.{roots-start-behind}
-use Rattle.hac_model.specs.Payload.States.{snapshot_of, snapshot_text, spelled_snapshot}
+use Rattle.hac_model.specs.Payload.States.{snapshot_of, snapshot_text, spelled_snapshot, state_kind}
 use Rattle.hac_model.specs.Run.Play.{Setting, stored_setting}
-use Rattle.hac_model.specs.Tree.Sessions.{stored}
+use Rattle.hac_model.specs.Tree.{raised}
+use Rattle.hac_model.specs.Tree.Sessions.{sessionless, stored}
 use Rattle.hac_model.specs.Tree.Valid.{IsValid}
 use Rattle.hac_model.specs.Tree.ValidTest.{is_valid}
 use Rattle.hac_model.specs.declared.limits.TheConstants.{STORE_LIMIT}
 use Rattle.hac_model.specs.declared.states.State.{State}
-use Rattle.hac_model.proofs.SpelledLemmas.{stored-valid}
+use Rattle.hac_model.specs.declared.versions.Version.{Version}
+use Rattle.hac_model.specs.declared.versions.Version.TheVariants.{One, Two}
+use Rattle.hac_model.proofs.RaisedLemmas.{raised-valid}
+use Rattle.hac_model.proofs.SpelledLemmas.{sessionless-valid}
 use Rattle.hac_model.proofs.StateSpellingLemmas.{valid-states-spelled}
 use Rattle.hac_model.proofs.ValidTestLemmas.{valid-Decides}
 use Rattle.event_codec.proofs.SnapshotLemmas.{snapshot_is_read}
@@ -41,27 +45,37 @@ use Rattle.hac_store.proofs.LogLemmas.{log-closed}
 -- ---- the new area
 
 state-is_state : (s : State) → is_state (state_text s) ≡ true
-unfolding snapshot_text
-state-is_state s = refl
+unfolding snapshot_of snapshot_text
+state-is_state s = by s.version
+  where
+    by : (version : Version) → (state_kind version == 2 || state_kind version == 3) ≡ true
+    by One = refl
+    by Two = refl
+
+-- what is stored of a state is its snapshot in version 2
+pub snapshot-raised : (s : State) → snapshot_of (raised s) ≡ record (snapshot_of s) { version = Two }
+unfolding snapshot_of
+snapshot-raised s = refl
 
 -- what is written of a valid state is read as what is stored of it
-state-after : (at : ℕ) (s : State) → IsValid s → after_snapshot at (spelled_snapshot (state_text s)) ≡ Ok (stored s)
+state-after : (at : ℕ) (s : State) → IsValid s → after_snapshot at (spelled_snapshot (state_text (raised s))) ≡ Ok (stored s)
 state-after at s valid =
+    let up = raised-valid s valid in
     let answer : Bool → State → Result State Stop = λ b t. if b then Ok t else Err (stop.BadAt (at + 5)) in
-    ap (after_snapshot at) (snapshot_is_read (snapshot_of s) (valid-states-spelled s valid))
-    ∙ ap (λ (t : State). answer (is_valid t) t) (snapshots-restore s valid)
-    ∙ ap (λ (b : Bool). answer b (stored s)) ((valid-Decides (stored s)).1 (stored-valid s valid))
+    ap (after_snapshot at) (snapshot_is_read (snapshot_of (raised s)) (valid-states-spelled (raised s) up))
+    ∙ ap (λ (t : State). answer (is_valid t) t) (snapshots-restore (raised s) up)
+    ∙ ap (λ (b : Bool). answer b (stored s)) ((valid-Decides (stored s)).1 (sessionless-valid (raised s) up))
 
 -- so an area that was written of it leads there
 area-written : (s : State) (at : ℕ) (file : List ℕ) → IsValid s → at ≤ length file
-    → length (state_text s) < STORE_LIMIT → area at (overlaid at (area_of (state_text s)) file)
-    ≡ Ok (record { state = stored s; end = at + 5 + length (state_text s) })
+    → length (state_text (raised s)) < 2 ^ 32 → area at (overlaid at (area_of (state_text (raised s))) file)
+    ≡ Ok (record { state = stored s; end = at + 5 + length (state_text (raised s)) })
 area-written s at file valid starts fits =
-    let payload = state_text s in
+    let payload = state_text (raised s) in
     let new = overlaid at (area_of payload) file in
     let end = at + 5 + length payload in
-    let found = areas-are-found at payload file starts (omega (arith, fits)) in
-    area-state at new payload end found.0 (state-is_state s)
+    let found = areas-are-found at payload file starts fits in
+    area-state at new payload end found.0 (state-is_state (raised s))
     ∙ ap (λ (r : Result State Stop). go_on r (λ next. log next end new)) (state-after at s valid)
     ∙ log-closed (stored s) end new (closed-is-found end new found.1)
 
@@ -77,16 +91,16 @@ live_area store = record { start = store.setting.start; end = store.setting.end 
 
 -- what a place for an area says
 record IsPlace (store : Seen) (at size : ℕ) : Type 0 where
-  pub fits : size < STORE_LIMIT
+  pub fits : size < 2 ^ 32
   pub place : place_for STORE_LIMIT (live_area store) (size + 6) ≡ Some at
 
 place-is : (store : Seen) (at size : ℕ) → place_of store.setting size ≡ Some at → IsPlace store at size
-place-is store at size is = by (nat_lt store.setting.generation (2 ^ 64 - 1)) (nat_lt size STORE_LIMIT) refl is
+place-is store at size is = by (nat_lt store.setting.generation (2 ^ 64 - 1)) (nat_lt size (2 ^ 32)) refl is
   where
     place : Option ℕ
     place = place_for STORE_LIMIT (live_area store) (size + 6)
 
-    by : (a b : Bool) → nat_lt size STORE_LIMIT ≡ b → (if a && b then place else None) ≡ Some at
+    by : (a b : Bool) → nat_lt size (2 ^ 32) ≡ b → (if a && b then place else None) ≡ Some at
         → IsPlace store at size
     by true true small is = record { fits = grind (arith, nat_tests); place = is }
     by true false small is = absurd cc
@@ -104,11 +118,11 @@ module _ (store : Seen) (at : ℕ) where
   s = store.setting.state
 
   abbrev size : ℕ
-  size = length (state_text s)
+  size = length (state_text (raised s))
 
   -- what the live area leads to, and the new one
   abbrev old_log : Log
-  old_log = record { state = stored s; end = store.setting.end }
+  old_log = record { state = sessionless s; end = store.setting.end }
 
   abbrev new_log : Log
   new_log = record { state = stored s; end = at + 5 + size }
@@ -162,14 +176,14 @@ module _ (store : Seen) (at : ℕ) where
 
     -- once it is written, both are there
     pub both-written : (file : List ℕ) → IsValid s → at ≤ length file → held file ≡ Ok (stored_setting store.setting)
-        → HasBoth (overlaid at (area_of (state_text s)) file)
+        → HasBoth (overlaid at (area_of (state_text (raised s))) file)
     both-written file valid starts is =
-        let bytes = area_of (state_text s) in
+        let bytes = area_of (state_text (raised s)) in
         let parts = held-parts file (stored_setting store.setting) is in
         let start : store.setting.start ≡ parts.root.start = ap (λ (z : Setting). z.start) parts.setting_is in
         let lies = apart (omega (arith, start, roots-start-behind file parts.root parts.root_is)) in
         let free_of : IsApart at (length bytes) (live_area store) =
-        subst (λ (n : ℕ). IsApart at n (live_area store)) (sym (length-area (state_text s))) lies.2 in
+        subst (λ (n : ℕ). IsApart at n (live_area store)) (sym (length-area (state_text (raised s)))) lies.2 in
         let was : area store.setting.start file ≡ Ok old_log = ap (λ (n : ℕ). area n file) start ∙ parts.area_is in
         let torn = torn-whole at bytes file starts in
         record {

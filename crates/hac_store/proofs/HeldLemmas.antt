@@ -1,5 +1,5 @@
 -- What a file holds, by its root and its log.
-use Rattle.std.proofs.Common.{◌≡◌, inl, inr, ⊎_elim, ℕ, ◌+◌, ◌<◌, ◌≤◌, ◌^◌, List, [], ◌∷◌, ◌++◌, length, take, drop, map, Result, Ok, Err, refl, sym, ◌∙◌, ap, subst, arith, append_assoc, length-append, length-drop}
+use Rattle.std.proofs.Common.{◌≡◌, inl, inr, ⊎_elim, ℕ, ◌+◌, ◌<◌, ◌≤◌, List, [], ◌∷◌, ◌++◌, length, take, drop, map, Result, Ok, Err, refl, sym, ◌∙◌, ap, subst, arith, append_assoc, length-append, length-drop}
 use Rattle.std.proofs.lemmas.List.{take_at, drop_at, length-take}
 use Rattle.std.proofs.lemmas.Bool.{cases_lt}
 use Rattle.hac_disk.specs.Images.{overlaid}
@@ -16,13 +16,15 @@ use Rattle.hac_journal.proofs.LawLemmas.{closed-is-found, none-is-closed, record
 use Rattle.hac_model.specs.Tree.Events.{apply_all}
 use Rattle.hac_model.specs.Payload.Payloads.{event_text}
 use Rattle.hac_model.specs.Run.Play.{Setting, after_events, end_behind, stored_setting}
-use Rattle.hac_model.specs.Tree.Sessions.{stored}
+use Rattle.hac_model.specs.Tree.Sessions.{sessionless}
 use Rattle.hac_model.specs.Tree.Valid.{IsValid}
 use Rattle.hac_model.specs.declared.events.Event.{Event}
+use Rattle.hac_model.specs.declared.states.State.{State}
+use Rattle.hac_model.specs.declared.versions.Version.{Version}
 use Rattle.hac_store.specs.Held.{Log, area, from_root, held, log, with_root}
 use Rattle.hac_store.specs.Stores.{HeldBetween}
-use Rattle.hac_store.proofs.AreaLemmas.{AreaEnds, HasNoState, area-ends, area-sound, closed-stateless, event-no_state, event-stateless}
-use Rattle.hac_store.proofs.LogLemmas.{end-grows, log-closed, log-records}
+use Rattle.hac_store.proofs.AreaLemmas.{AreaEnds, GoesOn, area-ends, area-sound, closed-goes, event-goes, event-kind}
+use Rattle.hac_store.proofs.LogLemmas.{log-closed, log-records}
 use Rattle.hac_store.proofs.StoredLemmas.{AreStored}
 
 -- the store of a root and the end of its log
@@ -69,20 +71,20 @@ held-valid file setting is =
     let parts = held-parts file setting is in
     (area-sound parts.root.start file (record { state = setting.state; end = setting.end }) parts.area_is).0
 
--- all of it is stored: no session
-pub held-stored : (file : List ℕ) (setting : Setting) → held file ≡ Ok setting → stored setting.state ≡ setting.state
+-- and in no session
+pub held-stored : (file : List ℕ) (setting : Setting) → held file ≡ Ok setting → sessionless setting.state ≡ setting.state
 held-stored file setting is =
     let parts = held-parts file setting is in
     (area-sound parts.root.start file (record { state = setting.state; end = setting.end }) parts.area_is).1
 
--- where records of events are, no state is
-records-stateless : (at : ℕ) (file : List ℕ) (events : List Event) → end_behind at events < 2 ^ 32 → HoldsAt at (log_of (map event_text events)) file → HasNoState at file
-records-stateless at file [] fits holds = closed-stateless at file (closed-is-found at file (none-is-closed at file holds))
-records-stateless at file (event ∷ events) fits holds =
-    let payload = event_text event in
+-- where records of events are, the area goes on
+records-go : (version : Version) (at : ℕ) (file : List ℕ) (events : List Event) (s : State) → AreStored version s events → HoldsAt at (log_of (map (event_text version) events)) file → GoesOn version at file
+records-go version at file [] s stored holds = closed-goes version at file (closed-is-found at file (none-is-closed at file holds))
+records-go version at file (event ∷ events) s (accepted, spellable, short, stored) holds =
+    let payload = event_text version event in
     let behind = at + 5 + length payload in
-    let found = records-are-found at payload (map event_text events) file (omega (arith, fits, end-grows events behind)) holds in
-    event-stateless at file payload behind found.0 (event-no_state event)
+    let found = records-are-found at payload (map (event_text version) events) file short holds in
+    event-goes version at file payload behind found.0 (event-kind version event)
 
 -- a file that agrees with one that holds a store, up to the end of its log, and has a byte there
 module _ (c d : List ℕ) (z : Setting) (is : held d ≡ Ok z) (front : take z.end c ≡ take z.end d) (long : z.end < length c) where
@@ -90,23 +92,25 @@ module _ (c d : List ℕ) (z : Setting) (is : held d ≡ Ok z) (front : take z.e
   held-ends = area-ends (held-parts d z is).root.start d (record { state = z.state; end = z.end }) (held-parts d z is).area_is
 
   -- it holds what its log makes of that store
-  pub held-along : (l : Log) → HasNoState z.end c → log z.state z.end c ≡ Ok l → held c ≡ Ok (record z { state = l.state; end = l.end })
-  held-along l none read =
+  pub held-along : (l : Log) → GoesOn z.state.version z.end c → log z.state z.end c ≡ Ok l → held c ≡ Ok (record z { state = l.state; end = l.end })
+  held-along l goes read =
       let parts = held-parts d z is in
       let high : 43 ≤ z.end = omega (arith, roots-start-behind d parts.root parts.root_is, held-ends.behind) in
       let head : take 43 c ≡ take 43 d = front-less c d 43 z.end high front in
       let root : root_of c ≡ Ok parts.root = roots-agree c d head ∙ parts.root_is in
-      held-area c parts.root l root (held-ends.along c front long none ∙ read)
+      held-area c parts.root l root (held-ends.along c front long goes ∙ read)
       ∙ ap (λ (s : Setting). Ok (record s { state = l.state; end = l.end })) (sym parts.setting_is)
 
   pub held-closed : ClosedAt z.end c → held c ≡ Ok z
   held-closed closed =
       let found = closed-is-found z.end c closed in
-      held-along (record { state = z.state; end = z.end }) (closed-stateless z.end c found) (log-closed z.state z.end c found)
+      held-along (record { state = z.state; end = z.end }) (closed-goes z.state.version z.end c found) (log-closed z.state z.end c found)
 
-  pub held-records : (events : List Event) → AreStored z.state events → end_behind z.end events < 2 ^ 32 → HoldsAt z.end (log_of (map event_text events)) c
+  pub held-records : (events : List Event) → AreStored z.state.version z.state events → HoldsAt z.end (log_of (map (event_text z.state.version) events)) c
       → held c ≡ Ok (after_events z events)
-  held-records events stored fits holds = held-along (record { state = apply_all z.state events; end = end_behind z.end events }) (records-stateless z.end c events fits holds) (log-records events z.state z.end c stored fits holds)
+  held-records events stored holds =
+      let version = z.state.version in
+      held-along (record { state = apply_all z.state events; end = end_behind version z.end events }) (records-go version z.end c events z.state stored holds) (log-records version events z.state z.end c refl stored holds)
 
 -- bytes at a place are within the file
 holds-long : (at : ℕ) (bytes file : List ℕ) → 0 < length bytes → HoldsAt at bytes file → at < length file
@@ -121,12 +125,13 @@ log-some payloads = omega (arith, length-append (records_of payloads) (0 ∷ [])
 
 -- what an append leaves of a store
 pub held-appending : (image : List ℕ → Type 0) (z : Setting) (events : List Event) → ((d : List ℕ) → image d → held d ≡ Ok (stored_setting z))
-    → AreStored (stored z.state) events → end_behind z.end events < 2 ^ 32 → (c : List ℕ) → Appending z.end (log_of (map event_text events)) image c → HeldBetween z events c
-held-appending image z events stands stored fits c left =
+    → AreStored z.state.version (sessionless z.state) events → (c : List ℕ) → Appending z.end (log_of (map (event_text z.state.version) events)) image c → HeldBetween z events c
+held-appending image z events stands stored c left =
     let is = stands left.old left.from in
+    let texts = map (event_text z.state.version) events in
     ⊎_elim
     (λ closed. inl (held-closed c left.old (stored_setting z) is left.front closed.there closed))
-    (λ holds. inr (held-records c left.old (stored_setting z) is left.front (holds-long z.end (log_of (map event_text events)) c (log-some (map event_text events)) holds) events stored fits holds))
+    (λ holds. inr (held-records c left.old (stored_setting z) is left.front (holds-long z.end (log_of texts) c (log-some texts) holds) events stored holds))
     left.rest
 
 -- bytes that were put somewhere are there
@@ -143,11 +148,12 @@ held-gate d z is =
     let parts = held-parts d z is in (area-ends parts.root.start d (record { state = z.state; end = z.end }) parts.area_is).closed
 
 -- a file that holds a store, with records at the end of its log, holds what they lead to
-pub held-overlaid : (d : List ℕ) (z : Setting) (events : List Event) → held d ≡ Ok z → AreStored z.state events → end_behind z.end events < 2 ^ 32
-    → held (overlaid z.end (log_of (map event_text events)) d) ≡ Ok (after_events z events)
-held-overlaid d z events is stored fits =
+pub held-overlaid : (d : List ℕ) (z : Setting) (events : List Event) → held d ≡ Ok z → AreStored z.state.version z.state events
+    → held (overlaid z.end (log_of (map (event_text z.state.version) events)) d) ≡ Ok (after_events z events)
+held-overlaid d z events is stored =
     let there = (held-gate d z is).there in
-    let bytes = log_of (map event_text events) in
+    let texts = map (event_text z.state.version) events in
+    let bytes = log_of texts in
     let holds = overlaid-holds z.end bytes d (omega (arith, there)) in
-    held-records (overlaid z.end bytes d) d z is (overlaid-before z.end bytes d (omega (arith, there))) (holds-long z.end bytes (overlaid z.end bytes d) (log-some (map event_text events)) holds)
-    events stored fits holds
+    held-records (overlaid z.end bytes d) d z is (overlaid-before z.end bytes d (omega (arith, there))) (holds-long z.end bytes (overlaid z.end bytes d) (log-some texts) holds)
+    events stored holds

@@ -3,6 +3,7 @@ pub mod BeginLemmas
 pub mod CheckpointLemmas
 pub mod CreateLemmas
 pub mod HeldLemmas
+pub mod LengthLemmas
 pub mod LiveLemmas
 pub mod LogLemmas
 pub mod NewLemmas

@@ -15,6 +15,7 @@ use Rattle.hac_checkpoint.specs.declared.heads.Root.{Root}
 use Rattle.hac_checkpoint.proofs.ApartLemmas.{writes-leave-roots}
 use Rattle.hac_checkpoint.proofs.RootLemmas.{gate_of-within}
 use Rattle.hac_model.specs.Run.Play.{Setting, stored_setting}
+use Rattle.hac_model.specs.Tree.{raised}
 use Rattle.hac_model.specs.Tree.Valid.{IsValid}
 use Rattle.hac_model.specs.Run.Checkpoints.{next_place, state_text}
 use Rattle.hac_store.specs.Checkpointing.{HoldsState, IsCheckpointed, moved_to}
@@ -131,7 +132,7 @@ module _ {D : Type 0} (seen : D → Option (List ℕ)) (image : D → List ℕ �
       (order : store.setting.start ≤ store.setting.end) (free : next_place store.setting ≡ Some at)
       (old mid : D) (read : (file : List ℕ) → seen old ≡ Some file → image old file)
       (bears : Bears (seen old) store)
-      (within : Within at (length (state_text store.setting.state) + 6) old mid) where
+      (within : Within at (length (state_text (raised store.setting.state)) + 6) old mid) where
     abbrev Holds : List ℕ → Type 0
     Holds = HoldsState store.setting.state
 
@@ -145,10 +146,10 @@ module _ {D : Type 0} (seen : D → Option (List ℕ)) (image : D → List ℕ �
     gate = gate_of (other_slot store.slot)
 
     abbrev bytes : List ℕ
-    bytes = area_of (state_text store.setting.state)
+    bytes = area_of (state_text (raised store.setting.state))
 
     abbrev end : ℕ
-    end = at + 5 + length (state_text store.setting.state)
+    end = at + 5 + length (state_text (raised store.setting.state))
 
     abbrev StoodFor : Type 0
     StoodFor = Stands (seen old) (image old) store.setting
@@ -167,7 +168,7 @@ module _ {D : Type 0} (seen : D → Option (List ℕ)) (image : D → List ℕ �
 
     pub writing-moments : StoodFor → Leaves old mid Holds
     writing-moments stands =
-        weaken moment image_since old mid (TornFrom at (length (state_text store.setting.state) + 6) (image old)) Holds
+        weaken moment image_since old mid (TornFrom at (length (state_text (raised store.setting.state)) + 6) (image old)) Holds
         (λ c torn. torn-holds store at order free c torn.0 (each stands torn.0 torn.1) torn.2) within.any_moment
 
     -- then the slot is filled
@@ -235,7 +236,7 @@ module _ {D : Type 0} (seen : D → Option (List ℕ)) (image : D → List ℕ �
               by : (o : Option (List ℕ)) → seen old ≡ o
                   → IsSettled (seen new) (image new) × IfSome (seen new) (HasRoot next)
               by None is =
-                  let size = length (state_text store.setting.state) + 6 in
+                  let size = length (state_text (raised store.setting.state)) + 6 in
                   let first = part-none (seen old) (seen mid) at size within.in_part is in
                   let second = part-none (seen mid) (seen two) gate 17 filled.in_part first in
                   let none = part-none (seen two) (seen new) gate 1 opened.in_part second in

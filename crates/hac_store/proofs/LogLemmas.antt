@@ -1,5 +1,5 @@
 -- Logs, as they are read from a gate on.
-use Rattle.std.proofs.Common.{◌≡◌, ℕ, zero, suc, ◌+◌, ◌<◌, ◌≤◌, ◌^◌, Bool, true, false, if◌then◌else◌, List, [], ◌∷◌, length, take, map, Result, Ok, Err, IsTrue, refl, sym, ◌∙◌, ap, subst, arith}
+use Rattle.std.proofs.Common.{◌≡◌, ℕ, zero, suc, ◌+◌, ◌<◌, ◌≤◌, Bool, true, false, if◌then◌else◌, List, [], ◌∷◌, length, take, map, Result, Ok, Err, IsTrue, refl, sym, ◌∙◌, ap, subst, arith}
 use Rattle.std.proofs.lemmas.List.{drop_all}
 use Rattle.hac_checkpoint.specs.Areas.{HaveSame}
 use Rattle.hac_checkpoint.specs.declared.areas.Area.{Area}
@@ -14,15 +14,16 @@ use Rattle.hac_journal.proofs.LawLemmas.{closed-is-found, found-is-closed, found
 use Rattle.hac_model.specs.Tree.Events.{accepted, apply, apply_all}
 use Rattle.hac_model.specs.Payload.Payloads.{event_text, is_spellable, spelled}
 use Rattle.hac_model.specs.Run.Play.{end_behind}
-use Rattle.hac_model.specs.Tree.Sessions.{is_stored, stored}
+use Rattle.hac_model.specs.Tree.Sessions.{is_stored, sessionless}
 use Rattle.hac_model.specs.Tree.Valid.{IsValid}
 use Rattle.hac_model.specs.declared.events.Event.{Event}
 use Rattle.hac_model.specs.declared.states.State.{State}
+use Rattle.hac_model.specs.declared.versions.Version.{Version}
 use Rattle.hac_model.proofs.AcyclicLemmas.{apply-valid}
 use Rattle.hac_model.proofs.SpelledLemmas.{not-stored}
 use Rattle.event_codec.proofs.PayloadLemmas.{written_is_read}
 use Rattle.hac_store.specs.Held.{Log, after_found, go_on, after_payload, log, log_from}
-use Rattle.hac_store.proofs.StoredLemmas.{AreStored, spelled_kept}
+use Rattle.hac_store.proofs.StoredLemmas.{AreStored, spelled_kept, version-after}
 
 -- one step of a log that is read
 read-step : (n : ℕ) (s : State) (at : ℕ) (file : List ℕ) → log_from (suc n) s at file ≡ after_found s at (found_at at file) (λ new behind. log_from n new behind file)
@@ -50,7 +51,7 @@ found-same : (s : State) (at : ℕ) (found : Found) (next other : State → ℕ 
     → after_found s at found next ≡ after_found s at found other
 found-same s at Short next other same = refl
 found-same s at Closed next other same = refl
-found-same s at (Whole payload behind) next other same = go-same (after_payload s at (spelled payload)) (λ new. next new behind) (λ new. other new behind) (λ new. same payload behind new refl)
+found-same s at (Whole payload behind) next other same = go-same (after_payload s at (spelled s.version payload)) (λ new. next new behind) (λ new. other new behind) (λ new. same payload behind new refl)
 
 -- as many steps as there are bytes are enough
 read-enough : (m n : ℕ) (s : State) (at : ℕ) (file : List ℕ) → length file ≤ at + m → length file ≤ at + n → log_from m s at file ≡ log_from n s at file
@@ -73,7 +74,7 @@ pub log-short : (s : State) (at : ℕ) (file : List ℕ) → found_at at file �
 log-short s at file found = log-step s at file ∙ ap (λ (f : Found). after_found s at f (λ new behind. log new behind file)) found
 
 pub log-whole : (s : State) (at : ℕ) (file payload : List ℕ) (behind : ℕ) → found_at at file ≡ Whole payload behind
-    → log s at file ≡ go_on (after_payload s at (spelled payload)) (λ new. log new behind file)
+    → log s at file ≡ go_on (after_payload s at (spelled s.version payload)) (λ new. log new behind file)
 log-whole s at file payload behind found = log-step s at file ∙ ap (λ (f : Found). after_found s at f (λ new behind. log new behind file)) found
 
 -- a log that was read ends at a closed gate, goes on in a file that agrees up to there, and is the same in a file that
@@ -103,7 +104,7 @@ found-ends n s at d l Closed found rest is =
       kept = λ area c same low high. log-closed s at c (closed-is-found at c (closed-gates-are-kept area at c d same low high (found-is-closed at d found)));
     })
 found-ends n s at d l (Whole payload behind) found rest is =
-    let parts = go-parts (after_payload s at (spelled payload)) (λ new. log_from n new behind d) l is in
+    let parts = go-parts (after_payload s at (spelled s.version payload)) (λ new. log_from n new behind d) l is in
     let new = parts.0 in
     let ends = rest new behind parts.2 in
     let whole = found-is-whole at behind payload d found in
@@ -145,8 +146,8 @@ module _ (P : State → Type 0) (each : (s : State) (event : Event) → P s → 
   found-keeps n s at d l Closed p rest is =
       let same : record { state = s; end = at } ≡ l = cc in subst (λ (end : Log). P end.state) same p
   found-keeps n s at d l (Whole payload behind) p rest is =
-      let parts = go-parts (after_payload s at (spelled payload)) (λ new. log_from n new behind d) l is in
-      rest parts.0 behind (after-keeps s at (spelled payload) parts.0 (spelled_kept payload) p parts.1) parts.2
+      let parts = go-parts (after_payload s at (spelled s.version payload)) (λ new. log_from n new behind d) l is in
+      rest parts.0 behind (after-keeps s at (spelled s.version payload) parts.0 (spelled_kept s.version payload) p parts.1) parts.2
 
   read-keeps : (n : ℕ) (s : State) (at : ℕ) (d : List ℕ) (l : Log) → P s → log_from n s at d ≡ Ok l → P l.state
   read-keeps zero s at d l p is = let none = sym (read-none s at d) ∙ is in absurd (cc)
@@ -157,33 +158,35 @@ module _ (P : State → Type 0) (each : (s : State) (event : Event) → P s → 
 pub log-valid : (s : State) (at : ℕ) (d : List ℕ) (l : Log) → IsValid s → log s at d ≡ Ok l → IsValid l.state
 log-valid s at d l h is = read-keeps IsValid (λ s event valid kept ok. apply-valid s event valid ok) (length d) s at d l h is
 
--- and all of it is stored
+-- and is in no session
 abbrev IsWhole : State → Type 0
-IsWhole s = IsValid s × (stored s ≡ s)
+IsWhole s = IsValid s × (sessionless s ≡ s)
 
-pub log-stored : (s : State) (at : ℕ) (d : List ℕ) (l : Log) → IsValid s → stored s ≡ s → log s at d ≡ Ok l → stored l.state ≡ l.state
+pub log-stored : (s : State) (at : ℕ) (d : List ℕ) (l : Log) → IsValid s → sessionless s ≡ s → log s at d ≡ Ok l → sessionless l.state ≡ l.state
 log-stored s at d l valid whole is =
     (read-keeps IsWhole
     (λ s event old kept ok. let after = not-stored s event old.0 kept ok in (apply-valid s event old.0 ok, after.1 ∙ ap (λ (t : State). apply t event) old.1))
     (length d) s at d l (valid, whole) is).1
 
 -- the end of a log doesn't fall
-pub end-grows : (events : List Event) (end : ℕ) → end ≤ end_behind end events
-end-grows [] end = omega arith
-end-grows (event ∷ events) end = omega (arith, end-grows events (end + 5 + length (event_text event)))
+pub end-grows : (version : Version) (events : List Event) (end : ℕ) → end ≤ end_behind version end events
+end-grows version [] end = omega arith
+end-grows version (event ∷ events) end = omega (arith, end-grows version events (end + 5 + length (event_text version event)))
 
-judged-event : (s : State) (at : ℕ) (event : Event) → IsTrue (accepted s event) → IsTrue (is_spellable event) → after_payload s at (spelled (event_text event)) ≡ Ok (apply s event)
-judged-event s at event accepted spellable =
-    ap (after_payload s at) (written_is_read event spellable) ∙ ap (λ (b : Bool). if b then Ok (apply s event) else Err (stop.BadAt (at + 5))) accepted
+judged-event : (version : Version) (s : State) (at : ℕ) (event : Event) → s.version ≡ version → IsTrue (accepted s event) → IsTrue (is_spellable version event)
+    → after_payload s at (spelled s.version (event_text version event)) ≡ Ok (apply s event)
+judged-event version s at event is accepted spellable =
+    ap (λ (v : Version). after_payload s at (spelled v (event_text version event))) is
+    ∙ ap (after_payload s at) (written_is_read version event spellable) ∙ ap (λ (b : Bool). if b then Ok (apply s event) else Err (stop.BadAt (at + 5))) accepted
 
 -- records of events are read as what these lead to
-pub log-records : (events : List Event) (s : State) (at : ℕ) (file : List ℕ) → AreStored s events → end_behind at events < 2 ^ 32
-    → HoldsAt at (log_of (map event_text events)) file → log s at file ≡ Ok (record { state = apply_all s events; end = end_behind at events })
-log-records [] s at file stored fits holds = log-closed s at file (closed-is-found at file (none-is-closed at file holds))
-log-records (event ∷ events) s at file (accepted, spellable, stored) fits holds =
-    let payload = event_text event in
+pub log-records : (version : Version) (events : List Event) (s : State) (at : ℕ) (file : List ℕ) → s.version ≡ version → AreStored version s events
+    → HoldsAt at (log_of (map (event_text version) events)) file → log s at file ≡ Ok (record { state = apply_all s events; end = end_behind version at events })
+log-records version [] s at file is stored holds = log-closed s at file (closed-is-found at file (none-is-closed at file holds))
+log-records version (event ∷ events) s at file is (accepted, spellable, short, stored) holds =
+    let payload = event_text version event in
     let behind = at + 5 + length payload in
-    let found = records-are-found at payload (map event_text events) file (omega (arith, fits, end-grows events behind)) holds in
+    let found = records-are-found at payload (map (event_text version) events) file short holds in
     log-whole s at file payload behind found.0
-    ∙ ap (λ (r : Result State Stop). go_on r (λ new. log new behind file)) (judged-event s at event accepted spellable)
-    ∙ log-records events (apply s event) behind file stored fits found.1
+    ∙ ap (λ (r : Result State Stop). go_on r (λ new. log new behind file)) (judged-event version s at event is accepted spellable)
+    ∙ log-records version events (apply s event) behind file (version-after version s event is) stored found.1

@@ -1,9 +1,8 @@
 -- What is left of a store whose log gets the records of events.
-use Rattle.std.proofs.Common.{◌≡◌, inl, ⊎_elim, Bool, false, ℕ, zero, suc, ◌+◌, ◌<◌, ◌≤◌, List, [], ◌∷◌, length, map, None, Some, IfSome, Result, Ok, Err, refl, sym, ◌∙◌, ap, subst, arith, Vec}
+use Rattle.std.proofs.Common.{◌≡◌, inl, Bool, false, ℕ, zero, suc, ◌≤◌, List, [], ◌∷◌, length, map, None, Some, IfSome, Result, Ok, Err, refl, sym, ◌∙◌, ap, subst, arith, Vec}
 use Rattle.std.specs.Prelude.{replicate}
 use Rattle.std.specs.declared.alloc.Global.{Global}
 use Rattle.std.specs.declared.option.Option.{Option}
-use Rattle.std.proofs.lemmas.Bool.{cases_lt}
 use Rattle.hac_disk.specs.Images.{LeavesOnly, overlaid}
 use Rattle.hac_disk.specs.Contents.{IsSettled, Written}
 use Rattle.hac_disk.proofs.Moments.{started, weaken}
@@ -22,10 +21,9 @@ use Rattle.hac_core.specs.declared.drafts.Settled.{Settled}
 use Rattle.hac_core.specs.declared.drafts.Settled.TheVariants as settled
 use Rattle.hac_model.specs.Payload.Payloads.{event_text}
 use Rattle.hac_model.specs.Run.Play.{Setting, after_events, end_behind, stored_setting}
-use Rattle.hac_model.specs.Tree.Sessions.{stored}
+use Rattle.hac_model.specs.Tree.Sessions.{sessionless}
 use Rattle.hac_model.specs.declared.events.Event.{Event}
 use Rattle.hac_model.specs.declared.events.Event.TheVariants.{Step}
-use Rattle.hac_model.specs.declared.limits.TheConstants.{STORE_LIMIT}
 use Rattle.hac_model.specs.declared.states.State.{State}
 use Rattle.hac_core.specs.Seen.{Seen as Kept}
 use Rattle.hac_outside.specs.Causes.{ReportsFault}
@@ -36,7 +34,6 @@ use Rattle.hac_store.specs.declared.fault.StoreFault.{StoreFault}
 use Rattle.hac_store.specs.Stores.{AreForStore, Bears, HeldBetween, Seen, Stands, root_by, store_after, unstored_after}
 use Rattle.hac_store.proofs.HeldLemmas.{held-appending, held-gate, held-overlaid}
 use Rattle.hac_store.proofs.StoredLemmas.{AreStored}
-use Rattle.hac_store.proofs.RoomLemmas.{within-limit}
 
 -- what a settled outcome stands for can happen
 pub can-happen : (s : State) (outcome : Settled) → CanSettle s outcome → AllHappen s (settled_events outcome)
@@ -53,7 +50,7 @@ steps-kept (suc count) = (refl, steps-kept count)
 -- what is seen of a store whose machine and whose end have gone on
 pub put-seen : (seen : Seen) (s new : State) (start end generation to : ℕ) (slot : Slot) (broken : Bool) (events : List Event)
     → record { setting = record { state = s; start = start; end = end; generation = generation }; slot = slot; broken = broken } ≡ seen
-    → new ≡ apply_all s events → to ≡ end_behind end events
+    → new ≡ apply_all s events → to ≡ end_behind s.version end events
     → record { setting = record { state = new; start = start; end = to; generation = generation }; slot = slot; broken = broken } ≡ store_after seen events
 put-seen seen s new start end generation to slot broken events is state ends =
     let of : ℕ → State → Seen = λ to state. record { setting = record { state = state; start = start; end = to; generation = generation }; slot = slot; broken = broken } in
@@ -84,20 +81,20 @@ stands-told (Some file) image z P stands p = p
 
 -- the records were written, and last
 pub put-stands : (seen new : Option (List ℕ)) (image now : List ℕ → Type 0) (z : Setting) (events : List Event) (vs : List (Vec ℕ Global))
-    → ((file : List ℕ) → seen ≡ Some file → image file) → contents_of vs ≡ map event_text events
-    → AreStored (stored z.state) events → stored (apply_all z.state events) ≡ apply_all (stored z.state) events
-    → (STORE_LIMIT < z.end + length (log_of (contents_of vs)) → ⊥) → Written seen z.end (log_of (contents_of vs)) new → IsSettled new now
+    → ((file : List ℕ) → seen ≡ Some file → image file) → contents_of vs ≡ map (event_text z.state.version) events
+    → AreStored z.state.version (sessionless z.state) events → sessionless (apply_all z.state events) ≡ apply_all (sessionless z.state) events
+    → Written seen z.end (log_of (contents_of vs)) new → IsSettled new now
     → Stands seen image z → Stands new now (after_events z events)
-put-stands None new image now z events vs read texts stored leads fits written settled stands = absurd stands
-put-stands (Some file) new image now z events vs read texts stored leads fits written settled stands =
+put-stands None new image now z events vs read texts stored leads written settled stands = absurd stands
+put-stands (Some file) new image now z events vs read texts stored leads written settled stands =
     let bytes = overlaid z.end (log_of (contents_of vs)) file in
     let only = told-settled new bytes now written settled in
     let before = stored_setting z in
     let same : held bytes ≡ Ok (after_events (stored_setting z) events) =
     ap (λ (l : List (List ℕ)). held (overlaid z.end (log_of l) file)) texts
-    ∙ held-overlaid file before events (stands file (read file refl)) stored (within-limit vs events z.end texts fits) in
+    ∙ held-overlaid file before events (stands file (read file refl)) stored in
     let after : held bytes ≡ Ok (stored_setting (after_events z events)) =
-    same ∙ ap (λ (s : State). Ok (record z { state = s; end = end_behind z.end events })) (sym leads) in
+    same ∙ ap (λ (s : State). Ok (record z { state = s; end = end_behind z.state.version z.end events })) (sym leads) in
     let all : Stands (Some bytes) now (after_events z events) = λ c left. ap held (only c left) ∙ after in
     subst (λ s. Stands s now (after_events z events)) (sym written) all
 
@@ -121,21 +118,16 @@ module _ {D : Type 0} (seen : D → Option (List ℕ)) (image : D → List ℕ �
       started moment image_since old (HeldBetween z events) (λ c since. inl (stands-each (seen old) (image old) z stands c (only_now old c since)))
 
   -- at each moment of an append
-  pub put-moments : (old new : D) (z : Setting) (events : List Event) (vs : List (Vec ℕ Global)) → contents_of vs ≡ map event_text events → AreStored (stored z.state) events
-      → (STORE_LIMIT < z.end + length (log_of (contents_of vs)) → new ≡ old)
+  pub put-moments : (old new : D) (z : Setting) (events : List Event) (vs : List (Vec ℕ Global)) → contents_of vs ≡ map (event_text z.state.version) events
+      → AreStored z.state.version (sessionless z.state) events
       → IfSome (seen old) (λ _. ((c : List ℕ) → image old c → ClosedAt z.end c) → LeavesOnly moment image_since old new (Appending z.end (log_of (contents_of vs)) (image old)))
       → Stands (seen old) (image old) z → LeavesOnly moment image_since old new (HeldBetween z events)
-  put-moments old new z events vs texts stored none appending stands =
+  put-moments old new z events vs texts stored appending stands =
       let each = stands-each (seen old) (image old) z stands in
-      ⊎_elim
-      (λ past. subst (λ d. LeavesOnly moment image_since old d (HeldBetween z events)) (sym (none past)) (none-put old z events stands))
-      (λ low.
-      let fits : STORE_LIMIT < z.end + length (log_of (contents_of vs)) → ⊥ = λ past. omega (arith, low, past) in
       let run = stands-told (seen old) (image old) z (((c : List ℕ) → image old c → ClosedAt z.end c) → LeavesOnly moment image_since old new (Appending z.end (log_of (contents_of vs)) (image old))) stands appending
       (λ c left. held-gate c (stored_setting z) (each c left)) in
       weaken moment image_since old new (Appending z.end (log_of (contents_of vs)) (image old)) (HeldBetween z events)
-      (λ c left. held-appending (image old) z events each stored (within-limit vs events z.end texts fits) c (subst (λ l. Appending z.end (log_of l) (image old) c) texts left)) run)
-      (cases_lt STORE_LIMIT (z.end + length (log_of (contents_of vs))))
+      (λ c left. held-appending (image old) z events each stored c (subst (λ l. Appending z.end (log_of l) (image old) c) texts left)) run
 
 -- nothing was touched
 pub none-stored : {D : Type 0} {seen : D → Option (List ℕ)} {image : D → List ℕ → Type 0} {moment : D → ℕ} {image_since : D → ℕ → List ℕ → Type 0} {attached : D → Option (List (List ℕ × Bool))} {faults : D → ℕ} {old new : D} {before after : Seen} {events : List Event} {fault : StoreFault}

@@ -19,6 +19,7 @@ use Rattle.hac_model.specs.Payload.Payloads.{all_of, payload_field, spelled}
 use Rattle.hac_model.specs.Payload.Payloads.{placed as within_payload}
 use Rattle.hac_model.specs.Payload.States.{snapshot_payload, spelled_snapshot}
 use Rattle.hac_model.specs.declared.states.State.{State}
+use Rattle.hac_model.specs.declared.versions.Version.{Version}
 use Rattle.hac_store.specs.Faults.{of_root}
 use Rattle.hac_store.specs.Held.{Log, area, from_root, go_on, held, after_payload, log, with_root}
 use Rattle.hac_store.specs.Reading.{BeginsArea, Judges, ReadsLog}
@@ -49,21 +50,21 @@ read-short (Some file) old start s new at len so_far tells =
 
 -- one record more
 pub read-more : (seen : Option (List ℕ)) (old : State) (start : ℕ) (s new : State) (at next : ℕ) (payload : Vec ℕ Global) → IsRead seen old start s at
-    → TellsAt (Entry payload next) at seen → after_payload s at (spelled payload.items) ≡ Ok new → IsRead seen old start new next
+    → TellsAt (Entry payload next) at seen → after_payload s at (spelled s.version payload.items) ≡ Ok new → IsRead seen old start new next
 read-more None old start s new at next payload so_far tells is = tt
 read-more (Some file) old start s new at next payload so_far tells is =
     so_far ∙ log-whole s at file payload.items next tells ∙ ap (λ (r : Result State Stop). go_on r (λ after. log after next file)) is
 
 -- a record that isn't sound
 pub read-wrong : (seen : Option (List ℕ)) (old : State) (start : ℕ) (s new : State) (at next place : ℕ) (payload : Vec ℕ Global) → IsRead seen old start s at
-    → TellsAt (Entry payload next) at seen → after_payload s at (spelled payload.items) ≡ Err (stop.BadAt place) → Reads (Err (fault.NotStore place)) seen old start new
+    → TellsAt (Entry payload next) at seen → after_payload s at (spelled s.version payload.items) ≡ Err (stop.BadAt place) → Reads (Err (fault.NotStore place)) seen old start new
 read-wrong None old start s new at next place payload so_far tells is = tt
 read-wrong (Some file) old start s new at next place payload so_far tells is =
     ap (placed file) (so_far ∙ log-whole s at file payload.items next tells ∙ ap (λ (r : Result State Stop). go_on r (λ after. log after next file)) is)
 
 -- a fault of a record is a fault of the log
 pub read-stop : (seen : Option (List ℕ)) (old : State) (start : ℕ) (s new : State) (at next : ℕ) (payload : Vec ℕ Global) (why : StoreFault) → IsRead seen old start s at
-    → TellsAt (Entry payload next) at seen → Judges (Err why) new (after_payload s at (spelled payload.items)) → Reads (Err why) seen old start new
+    → TellsAt (Entry payload next) at seen → Judges (Err why) new (after_payload s at (spelled s.version payload.items)) → Reads (Err why) seen old start new
 read-stop seen old start s new at next payload fault.Disk so_far tells judges = absurd judges
 read-stop seen old start s new at next payload (fault.NotStore place) so_far tells judges = read-wrong seen old start s new at next place payload so_far tells judges
 read-stop seen old start s new at next payload fault.AlreadyStore so_far tells judges = absurd judges
@@ -76,9 +77,9 @@ placed-within : {A : Type 0} (size : ℕ) (r : Result A ℕ) (at : ℕ) → with
 placed-within size (Ok value) at is = absurd (cc)
 placed-within size (Err left) at is = let place : size - left ≡ at = cc in omega (arith, place)
 
-pub spelled-within : (bytes : List ℕ) (at : ℕ) → spelled bytes ≡ Err at → at ≤ length bytes
+pub spelled-within : (version : Version) (bytes : List ℕ) (at : ℕ) → spelled version bytes ≡ Err at → at ≤ length bytes
 unfolding spelled
-spelled-within bytes at is = placed-within (length bytes) (payload_field.read bytes >>= all_of) at is
+spelled-within version bytes at is = placed-within (length bytes) ((payload_field version).read bytes >>= all_of) at is
 
 pub snapshot-within : (bytes : List ℕ) (at : ℕ) → spelled_snapshot bytes ≡ Err at → at ≤ length bytes
 unfolding spelled_snapshot

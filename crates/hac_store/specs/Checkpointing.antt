@@ -18,9 +18,9 @@ use Rattle.hac_store.specs.declared.fault.StoreFault.TheVariants.{Disk, NotStore
 abbrev pub moved_to : Seen → ℕ → Seen
 moved_to store at = record { setting = checkpointed store.setting at; slot = other_slot store.slot; broken = store.broken }
 
--- a file holds what is stored of this state
+-- a file holds what is stored of this state, in whatever version
 abbrev pub HoldsState : State → List ℕ → Type 0
-HoldsState s c = (setting : Setting) × IsHeldAs c setting × (setting.state ≡ stored s)
+HoldsState s c = (setting : Setting) × IsHeldAs c setting × (stored setting.state ≡ stored s)
 
 -- the new area is the live one, and last
 pub record IsCheckpointed (file : Option (List ℕ)) (image : List ℕ → Type 0)

@@ -1,5 +1,5 @@
 -- What an image of a store holds: the tree to which its live area leads, or the place of the first wrong byte.
-use Rattle.std.specs.Prelude.{ℕ, zero, suc, ◌+◌, ◌==◌, if◌then◌else◌, Bool, false, List, [], ◌∷◌, length, Result, Ok, Err}
+use Rattle.std.specs.Prelude.{ℕ, zero, suc, ◌+◌, ◌==◌, ◌||◌, if◌then◌else◌, Bool, false, List, [], ◌∷◌, length, Result, Ok, Err}
 use Rattle.hac_checkpoint.specs.Roots.{placed, root_of}
 use Rattle.hac_checkpoint.specs.declared.heads.Root.{Root}
 use Rattle.hac_checkpoint.specs.declared.heads.Stop.{Stop}
@@ -9,11 +9,13 @@ use Rattle.hac_model.specs.Tree.Events.{accepted, apply}
 use Rattle.hac_model.specs.Payload.Payloads.{spelled}
 use Rattle.hac_model.specs.Payload.States.{restored, spelled_snapshot}
 use Rattle.hac_model.specs.Run.Play.{Setting}
-use Rattle.hac_model.specs.Tree.{empty}
+use Rattle.hac_model.specs.Tree.{empty, root_alone}
 use Rattle.hac_model.specs.Tree.ValidTest.{is_valid}
 use Rattle.hac_model.specs.declared.events.Event.{Event}
 use Rattle.hac_model.specs.declared.snapshots.Snapshot.{Snapshot}
 use Rattle.hac_model.specs.declared.states.State.{State}
+use Rattle.hac_model.specs.declared.versions.Version.{Version}
+use Rattle.hac_model.specs.declared.versions.Version.TheVariants.{One, Two}
 
 -- what a payload makes of the state so far, given the place of its gate. It is wrong where it breaks the grammar, and
 -- at its first byte where its event can't happen.
@@ -31,11 +33,12 @@ abbrev pub go_on : Result State Stop → (State → Result Log Stop) → Result 
 go_on (Err stop) next = Err stop
 go_on (Ok new) next = next new
 
--- what a log holds from a gate on, given what is found there and how it is read behind a record
+-- what a log holds from a gate on, given what is found there and how it is read behind a record. A payload is read in the
+-- version of the state so far, so one of another version is wrong at its first byte.
 abbrev pub after_found : State → ℕ → Found → (State → ℕ → Result Log Stop) → Result Log Stop
 after_found s at Short next = Err stop.Short
 after_found s at Closed next = Ok (record { state = s; end = at })
-after_found s at (Whole payload behind) next = go_on (after_payload s at (spelled payload)) (λ new. next new behind)
+after_found s at (Whole payload behind) next = go_on (after_payload s at (spelled s.version payload)) (λ new. next new behind)
 
 -- a log from a gate on, at most this many records
 unfoldable pub log_from : ℕ → State → ℕ → List ℕ → Result Log Stop
@@ -49,7 +52,12 @@ log s at file = log_from (length file) s at file
 -- the payload is that of a whole state, by the byte of its kind
 abbrev pub is_state : List ℕ → Bool
 is_state [] = false
-is_state (kind ∷ rest) = kind == 2
+is_state (kind ∷ rest) = kind == 2 || kind == 3
+
+-- the version of an area whose first record holds an event, by the byte of its kind
+abbrev pub first_version : List ℕ → Version
+first_version [] = Two
+first_version (kind ∷ rest) = if kind == 1 then One else Two
 
 -- the state that a payload holds, given the place of its gate. It is wrong where it breaks the grammar, and at its first
 -- byte where no such state can be.
@@ -57,11 +65,13 @@ abbrev pub after_snapshot : ℕ → Result Snapshot ℕ → Result State Stop
 after_snapshot at (Err offset) = Err (stop.BadAt (at + 5 + offset))
 after_snapshot at (Ok snapshot) = if is_valid (restored snapshot) then Ok (restored snapshot) else Err (stop.BadAt (at + 5))
 
--- the state behind the first record of an area: a whole state, or what an event makes of the empty tree
+-- the state behind the first record of an area: a whole state, or what an event makes of the root alone
 abbrev pub after_first : ℕ → List ℕ → Result State Stop
-after_first at payload = if is_state payload then after_snapshot at (spelled_snapshot payload) else after_payload empty at (spelled payload)
+after_first at payload =
+    if is_state payload then after_snapshot at (spelled_snapshot payload)
+    else after_payload (root_alone (first_version payload)) at (spelled (first_version payload) payload)
 
--- what an area holds, given what is found at its first gate: the root alone, where it has no record
+-- what an area holds, given what is found at its first gate: what a new store holds, where it has no record
 abbrev pub area_with : ℕ → List ℕ → Found → Result Log Stop
 area_with at file Short = Err stop.Short
 area_with at file Closed = Ok (record { state = empty; end = at })

@@ -16,11 +16,14 @@ abbrev pub AppendsExtend : Type 0
 AppendsExtend =
     (file : List ℕ) (setting : Setting) (event : Event) → IsHeldAs file setting → IsTrue (is_stored event) →
     IsTrue (accepted setting.state event) → IsTrue (have_room setting (event ∷ [])) →
-    IsHeldAs (overlaid setting.end (log_of (event_text event ∷ [])) file) (after_events setting (event ∷ []))
+    IsHeldAs (overlaid setting.end (log_of (event_text setting.state.version event ∷ [])) file)
+    (after_events setting (event ∷ []))
 
 -- for index steps there is room just where as many records of two bytes fit
 abbrev pub StepsHaveRoom : Type 0
-StepsHaveRoom = (setting : Setting) (count : ℕ) → have_room setting (replicate count Step) ≡ fit_behind setting.end count 2
+StepsHaveRoom =
+    (setting : Setting) (count : ℕ) →
+    have_room setting (replicate count Step) ≡ fit_behind setting.state.version setting.end count 2
 
 -- no file holds a session: each run begins with all of them in the root
 abbrev pub FilesHoldNoSession : Type 0

@@ -11,10 +11,11 @@ use Rattle.hac_model.specs.Run.Play.{Setting, after_events, new_setting, stored_
 use Rattle.hac_model.specs.Tree.Events.{apply}
 use Rattle.hac_model.specs.Tree.Sessions.{is_stored}
 use Rattle.hac_model.specs.Tree.{empty}
+use Rattle.hac_model.specs.Versions.{store_limit}
 use Rattle.hac_model.specs.declared.events.Event.{Event}
 use Rattle.hac_model.specs.contracts.states.State as state
-use Rattle.hac_model.specs.declared.limits.TheConstants.{STORE_LIMIT}
 use Rattle.hac_model.specs.declared.states.State.{State}
+use Rattle.hac_model.specs.declared.versions.Version.{Version}
 use Rattle.hac_store.specs.Held.{held}
 use Rattle.hac_store.specs.declared.fault.StoreFault.{StoreFault}
 use Rattle.hac_store.specs.declared.fault.StoreFault.TheVariants.{NotStore}
@@ -37,9 +38,10 @@ seen_code =
     })
     (λ _. refl)
 
--- this many records with payloads of this size, and the closed gate behind them, lie within the limit of a store
-abbrev pub fit_behind : ℕ → ℕ → ℕ → Bool
-fit_behind end records payload = records == 0 || nat_lt (end + records * (5 + payload)) STORE_LIMIT
+-- this many records with payloads of this size, and the closed gate behind them, lie within the limit of a store of a
+-- version
+abbrev pub fit_behind : Version → ℕ → ℕ → ℕ → Bool
+fit_behind version end records payload = records == 0 || nat_lt (end + records * (5 + payload)) (store_limit version)
 
 -- the store after events
 abbrev pub store_after : Seen → List Event → Seen

@@ -16,7 +16,7 @@ use Rattle.hac_store.specs.declared.fault.StoreFault.TheVariants.{Disk, NotStore
 pub record AllStored (file new_file : Option (List ℕ)) (image : List ℕ → Type 0) (before after : Seen) (events : List Event) : Type 0 where
   pub room : have_room before.setting events ≡ true
   pub store : after ≡ store_after before events
-  pub written : Written file before.setting.end (log_of (map event_text events)) new_file
+  pub written : Written file before.setting.end (log_of (map (event_text before.setting.state.version) events)) new_file
   pub settled : IsSettled new_file image
   pub place : Bears new_file after
 

@@ -16,7 +16,7 @@ use event_codec::write_event;
 use hac_core::{Change, Settled};
 use hac_disk::Disk;
 use hac_journal::{JournalFault, append};
-use hac_model::{Event, Memory, STORE_LIMIT};
+use hac_model::{Event, Memory, Version};
 use std::alloc::Global;
 
 impl Store {
@@ -29,7 +29,7 @@ impl Store {
         ensures { StoresEvents D.seen D.image D.moment D.image_since D.attached D.faults disk.old
             disk.new self.old self.new (change.event ∷ []) result }
     {
-        match write_event(self.alloc, &change.event) {
+        match write_event(self.alloc, self.machine.version(), &change.event) {
             Ok(payload) => self.put(disk, Settled::Change(change), &[payload]),
             Err(_) => {
                 drop(change);
@@ -54,7 +54,7 @@ impl Store {
         if !self.room_for(count, 2) {
             return Err(StoreFault::Full);
         }
-        let payloads = step_payloads(self.alloc, count)?;
+        let payloads = step_payloads(self.alloc, self.machine.version(), count)?;
         self.put(disk, Settled::Steps(count), &payloads)
     }
 
@@ -81,13 +81,15 @@ impl Store {
         requires some { 0 < length payloads.now }
         requires can { CanSettle self.old.setting.state settled }
         requires stored { AreForStore (settled_events settled) }
-        requires texts { contents_of payloads.now ≡ map event_text (settled_events settled) }
+        requires texts { contents_of payloads.now ≡ map
+            (event_text self.old.setting.state.version) (settled_events settled) }
         requires place { Bears (D.seen disk.old) self.old }
         ensures { StoresEvents D.seen D.image D.moment D.image_since D.attached D.faults disk.old
             disk.new self.old self.new (settled_events settled) result }
     {
+        let limit = self.machine.version().store_limit();
         self.machine.prepare(settled)?;
-        match append(self.alloc, disk, STORE_LIMIT, self.end, payloads) {
+        match append(self.alloc, disk, limit, self.end, payloads) {
             Ok(end) => {
                 self.machine.commit();
                 self.end = end;
@@ -103,14 +105,14 @@ impl Store {
     }
 }
 
-// The payloads of `count` index steps.
-fn step_payloads(alloc: Global, count: u64) -> Result<Vec<Vec<u8>>, Memory>
-    ensures { IfOk result (λ payloads. contents_of payloads.items ≡ map event_text
+// The payloads of `count` index steps, in a version.
+fn step_payloads(alloc: Global, version: Version, count: u64) -> Result<Vec<Vec<u8>>, Memory>
+    ensures { IfOk result (λ payloads. contents_of payloads.items ≡ map (event_text version)
         (replicate count event.Step)) }
 {
     let mut payloads = Vec::new(alloc);
     for _ in 0..count {
-        payloads.push(write_event(alloc, &Event::Step)?)?;
+        payloads.push(write_event(alloc, version, &Event::Step)?)?;
     }
     Ok(payloads)
 }

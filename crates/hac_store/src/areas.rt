@@ -4,10 +4,10 @@ ghost use Rattle.std.specs.Prelude.{length};
 ghost use Rattle.hac_disk.specs.Images.{IsQuiet};
 ghost use Rattle.hac_journal.specs.Finding.{Whole, found_at};
 ghost use Rattle.hac_model.specs.Payload.States.{spelled_snapshot};
-ghost use Rattle.hac_model.specs.Tree.{empty};
+ghost use Rattle.hac_model.specs.Tree.{root_alone};
 ghost use Rattle.hac_outside.specs.Causes.{ReportsFault};
 ghost use Rattle.hac_store.specs.Faults.{is_disk_fault};
-ghost use Rattle.hac_store.specs.Held.{after_snapshot, area, is_state};
+ghost use Rattle.hac_store.specs.Held.{after_snapshot, area, first_version, is_state};
 ghost use Rattle.hac_store.specs.Reading.{BeginsArea, JudgesState};
 
 use crate::fault::StoreFault;
@@ -15,6 +15,7 @@ use event_codec::{CodecFault, read_snapshot};
 use hac_core::{LoadFault, Replay};
 use hac_disk::Disk;
 use hac_journal::{Next, next};
+use hac_model::Version;
 use std::alloc::Global;
 
 /// Where the log of an area goes on: the state, and the place of the next gate.
@@ -25,7 +26,7 @@ pub(crate) struct Begun {
 }
 
 /// Begins to read an area: if its first record is a whole state, the log goes on behind it, else it
-/// goes on from the root alone, with that record.
+/// goes on from the root alone, with that record, whose kind tells the version.
 pub(crate) fn begin<D: Disk>(alloc: Global, disk: &mut D, start: u64) -> Result<Begun, StoreFault>
     ensures area { IfSome (D.seen disk.old) (λ file. BeginsArea result file (area start file)) }
     ensures ahead { IfOk result (λ begun. start ≤ begun.at) }
@@ -36,17 +37,18 @@ pub(crate) fn begin<D: Disk>(alloc: Global, disk: &mut D, start: u64) -> Result<
 {
     match next(alloc, disk, start)? {
         Next::Entry { payload, next } => begin_behind(alloc, start, &payload, next),
-        Next::End => begin_empty(alloc, start),
-        Next::Bad { .. } => begin_empty(alloc, start),
+        Next::End => begin_empty(alloc, Version::Two, start),
+        Next::Bad { .. } => begin_empty(alloc, Version::Two, start),
     }
 }
 
-// The log goes on from the root alone.
-fn begin_empty(alloc: Global, start: u64) -> Result<Begun, StoreFault>
-    ensures begun { IfOk result (λ begun. begun ≡ record { replay = empty; at = start }) }
+// The log goes on from the root alone, in a version.
+fn begin_empty(alloc: Global, version: Version, start: u64) -> Result<Begun, StoreFault>
+    ensures begun { IfOk result (λ begun. begun ≡ record
+        { replay = root_alone version; at = start }) }
     ensures memory { IfErr result (λ fault. fault ≡ StoreFault.Memory) }
 {
-    let replay = Replay::new(alloc)?;
+    let replay = Replay::new(alloc, version)?;
     Ok(Begun { replay, at: start })
 }
 
@@ -63,7 +65,7 @@ fn begin_behind(alloc: Global, start: u64, payload: &[u8], next: u64) -> Result<
         let replay = read_state(alloc, start, payload)?;
         Ok(Begun { replay, at: next })
     } else {
-        begin_empty(alloc, start)
+        begin_empty(alloc, first_version(payload), start)
     }
 }
 
@@ -71,7 +73,17 @@ fn begin_behind(alloc: Global, start: u64, payload: &[u8], next: u64) -> Result<
 fn is_state(payload: &[u8]) -> bool
     ensures { result ≡ is_state payload.now }
 {
-    payload.first() == Some(&2)
+    matches!(payload.first(), Some(&(2 | 3)))
+}
+
+// The version of an area whose first record holds an event.
+fn first_version(payload: &[u8]) -> Version
+    ensures { result ≡ first_version payload.now }
+{
+    match payload.first() {
+        Some(&1) => Version::One,
+        _ => Version::Two,
+    }
 }
 
 // The state that a payload holds, given the place of its gate.

@@ -1,10 +1,12 @@
-//! Checkpoints: the state is written as a new area, in a place that the live one doesn't use, and
-//! then the root flips to it. A crash leaves the one area or the other, with the same state.
+//! Checkpoints: the state is written as a new area of version 2, in a place that the live one
+//! doesn't use, and then the root flips to it. A crash leaves the one area or the other, with the
+//! same state.
 ghost use Rattle.std.specs.Prelude.{◌≡◌, ◌≤◌, ◌+◌, Some, IfOk, OnOk, false, length};
 ghost use Rattle.hac_outside.specs.Causes.{HasCause};
 ghost use Rattle.hac_disk.specs.Images.{LeavesOnly};
 ghost use Rattle.hac_model.specs.Tree.Valid.{IsValid};
 ghost use Rattle.hac_model.specs.Run.Checkpoints.{next_place, place_of, state_text};
+ghost use Rattle.hac_model.specs.Tree.{raised};
 ghost use Rattle.hac_store.specs.Checkpointing.{Checkpoints, HoldsState, IsCheckpointed, moved_to};
 ghost use Rattle.hac_store.specs.Stores.{Bears, Stands, root_by};
 
@@ -13,13 +15,16 @@ use crate::store::Store;
 use event_codec::write_snapshot;
 use hac_checkpoint::{Area, Root, area_place, close_and_fill, open_root, write_area};
 use hac_disk::Disk;
-use hac_model::{Memory, STORE_LIMIT};
+use hac_model::{Memory, STORE_LIMIT, Version};
 use hac_outside::Failed;
 
+// A record's length has four bytes, so each payload is shorter than this.
+const PAYLOAD_LIMIT: u64 = 4_294_967_296;
+
 impl Store {
-    /// Writes the state as a new area, in a place that the live one doesn't use, and then flips the
-    /// root to it. The log goes on behind the state. After `Full` and `Memory` nothing was written
-    /// and all is as before; after `Disk` the store is broken.
+    /// Writes the state as a new area of version 2, in a place that the live one doesn't use, and
+    /// then flips the root to it. The log goes on behind the state, in that version. After `Full` and
+    /// `Memory` nothing was written and all is as before; after `Disk` the store is broken.
     pub fn checkpoint<D: Disk>(&mut self, disk: &mut D) -> Result<(), StoreFault>
         requires intact { self.old.broken ≡ false }
         requires place { Bears (D.seen disk.old) self.old }
@@ -42,11 +47,13 @@ impl Store {
         }
     }
 
-    // The payload of the whole state.
+    // The payload of the whole state, in version 2.
     fn state_payload(&self) -> Result<Vec<u8>, Memory>
-        ensures { IfOk result (λ payload. payload.items ≡ state_text self.now.setting.state) }
+        ensures { IfOk result
+            (λ payload. payload.items ≡ state_text (raised self.now.setting.state)) }
     {
-        let snapshot = self.machine.snapshot()?;
+        let mut snapshot = self.machine.snapshot()?;
+        snapshot.version = Version::Two;
         write_snapshot(self.alloc, &snapshot)
     }
 
@@ -54,7 +61,7 @@ impl Store {
     fn place_of(&self, payload: u64) -> Option<u64>
         ensures { result ≡ place_of self.now.setting payload }
     {
-        if self.generation == u64::MAX || payload >= STORE_LIMIT {
+        if self.generation == u64::MAX || payload >= PAYLOAD_LIMIT {
             return None;
         }
         let live = Area {
@@ -67,7 +74,7 @@ impl Store {
     // Writes an area with the state, flips the root to it, and answers where its log ends.
     fn make_live<D: Disk>(&self, disk: &mut D, at: u64, payload: &[u8]) -> Result<u64, Failed>
         requires free { next_place self.now.setting ≡ Some at }
-        requires text { payload.now ≡ state_text self.now.setting.state }
+        requires text { payload.now ≡ state_text (raised self.now.setting.state) }
         requires place { Bears (D.seen disk.old) self.now }
         ensures end { IfOk result (λ end. end ≡ at + 5 + length payload.now) }
         ensures made { OnOk result (IsCheckpointed (D.seen disk.new) (D.image disk.new) self.now
@@ -107,9 +114,10 @@ impl Store {
     // The log goes on behind the area at that place, whose root is the next one.
     fn go_on_at(&mut self, at: u64, end: u64)
         requires free { next_place self.old.setting ≡ Some at }
-        requires end { end ≡ at + 5 + length (state_text self.old.setting.state) }
+        requires end { end ≡ at + 5 + length (state_text (raised self.old.setting.state)) }
         ensures { self.new ≡ moved_to self.old at }
     {
+        self.machine.raise();
         self.slot = self.slot.other();
         self.start = at;
         self.end = end;

@@ -17,6 +17,7 @@ use hac_checkpoint::Slot;
 use hac_core::Machine;
 use hac_disk::{Disk, write_stable};
 use hac_journal::{CLOSED, OPEN};
+use hac_model::Version;
 use hac_outside::Failed;
 use std::alloc::Global;
 
@@ -80,7 +81,7 @@ fn new_store<D: Disk>(alloc: Global, disk: &mut D) -> Result<Store, StoreFault>
     ensures attached { D.attached disk.new ≡ D.attached disk.old }
     ensures faults { ReportsFault (is_disk_fault result) (D.faults disk.old) (D.faults disk.new) }
 {
-    let machine = Machine::new(alloc)?;
+    let machine = Machine::new(alloc, Version::Two)?;
     match write_new(disk) {
         Ok(()) => Ok(Store {
             alloc,

@@ -15,7 +15,7 @@ ghost use Rattle.hac_store.specs.Stores.{Bears, Opens, Stands};
 use crate::areas::{Begun, begin};
 use crate::fault::StoreFault;
 use crate::store::Store;
-use event_codec::{CodecFault, Payload, read_payload};
+use event_codec::{CodecFault, read_event};
 use hac_checkpoint::roots;
 use hac_core::Replay;
 use hac_disk::Disk;
@@ -113,10 +113,11 @@ fn apply_payload(
     payload: &[u8],
 ) -> Result<(), StoreFault>
     requires { at + 5 + length payload.now < 2 ^ 64 }
-    ensures { Judges result replay.new (after_payload replay.old at (spelled payload.now)) }
+    ensures { Judges result replay.new (after_payload replay.old at
+        (spelled replay.old.version payload.now)) }
 {
-    match read_payload(alloc, payload, false) {
-        Ok(Payload::Event(event)) => accept(replay, at, event),
+    match read_event(alloc, replay.version(), payload) {
+        Ok(event) => accept(replay, at, event),
         Err(CodecFault::Bad { at: offset }) => Err(StoreFault::NotStore {
             at: at + 5 + offset,
         }),

@@ -4,7 +4,6 @@ ghost use Rattle.hac_store.specs.Stores.{fit_behind};
 
 use hac_checkpoint::Slot;
 use hac_core::Machine;
-use hac_model::STORE_LIMIT;
 use std::alloc::Global;
 use std::marker::Model;
 
@@ -60,9 +59,10 @@ impl Store {
 
     /// Whether `records` records with payloads of `payload` bytes each fit in the store.
     pub fn room_for(&self, records: u64, payload: u64) -> bool
-        ensures { result ≡ fit_behind self.now.setting.end records payload }
+        ensures { result ≡ fit_behind self.now.setting.state.version self.now.setting.end records
+            payload }
     {
         let size = records.saturating_mul(payload.saturating_add(5));
-        records == 0 || self.end.saturating_add(size) < STORE_LIMIT
+        records == 0 || self.end.saturating_add(size) < self.machine.version().store_limit()
     }
 }

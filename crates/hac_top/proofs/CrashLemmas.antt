@@ -12,6 +12,7 @@ use Rattle.hac_model.proofs.PlayLemmas.{apply_all-append}
 use Rattle.hac_store.specs.Held.{held}
 use Rattle.hac_top.specs.Crashes.{Holds, IsTreeAfter, IsTreeOfAnswered, Reopens}
 use Rattle.hac_top.specs.Ticking.{command_events}
+use Rattle.hac_model.specs.Tree.Sessions.{stored}
 
 -- Events of turns.
 
@@ -55,12 +56,12 @@ tree-behind s t now done here rest led tree =
 
 -- what has this, the other has
 pub holds-weaker : (P Q : State → Type 0) (image : List ℕ) → ((s : State) → P s → Q s) → Holds P image → Holds Q image
-holds-weaker P Q image then_q holds = record { kept = holds.kept; is = holds.is; state = then_q holds.kept.state holds.state }
+holds-weaker P Q image then_q holds = record { kept = holds.kept; is = holds.is; state = then_q (stored holds.kept.state) holds.state }
 
 -- what is held is held, whatever was asked for
 pub reopens : (fresh : Bool) (P : State → Type 0) (image : List ℕ) → Holds P image → Reopens fresh P image
 reopens false P image holds = holds
-reopens true P image holds = λ kept is. subst P (ap (λ (setting : Setting). setting.state) (same kept is)) holds.state
+reopens true P image holds = λ kept is. subst P (ap (λ (setting : Setting). stored setting.state) (same kept is)) holds.state
   where
     same : (kept : Setting) → held image ≡ Ok kept → holds.kept ≡ kept
     same kept is = let both : Ok holds.kept ≡ Ok kept = sym holds.is ∙ is in cc

@@ -128,7 +128,7 @@ turn_by setting lines events = record {
   reply = Lines lines;
   events = filter is_stored events;
   steps = [];
-  after = record setting { state = apply_all setting.state events; end = end_behind setting.end (filter is_stored events) };
+  after = record setting { state = apply_all setting.state events; end = end_behind setting.state.version setting.end (filter is_stored events) };
 }
 
 -- the turn of a command that nothing else refuses, if the store has room for what it writes, given whether that is a new
@@ -311,7 +311,7 @@ all-kept : (setting : Setting) (events : List Event) → filter is_stored events
 all-kept setting events same =
     ap (λ (es : List Event).
     if have_room setting es
-    then record { reply = Lines []; events = es; steps = []; after = record setting { state = apply_all setting.state events; end = end_behind setting.end es } }
+    then record { reply = Lines []; events = es; steps = []; after = record setting { state = apply_all setting.state events; end = end_behind setting.state.version setting.end es } }
     else refused_turn nothing_given setting (Limit Store)) same
 
 pub steps-kept : (count : ℕ) → filter is_stored (replicate count Step) ≡ replicate count Step
@@ -324,7 +324,7 @@ one-event setting event true is = all-kept setting (event ∷ []) (ap (λ (b : B
 one-event setting event false is =
     ap (λ (es : List Event).
     if have_room setting es
-    then record { reply = Lines []; events = es; steps = []; after = record setting { state = apply setting.state event; end = end_behind setting.end es } }
+    then record { reply = Lines []; events = es; steps = []; after = record setting { state = apply setting.state event; end = end_behind setting.state.version setting.end es } }
     else refused_turn nothing_given setting (Limit Store)) (ap (λ (b : Bool). if b then event ∷ [] else []) is)
 
 -- the turn of an outcome, by its events

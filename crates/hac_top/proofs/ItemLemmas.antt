@@ -30,6 +30,7 @@ use Rattle.hac_top.specs.declared.status.Status.TheVariants as status
 use Rattle.hac_top.proofs.DecidingLemmas.{steps-kept}
 use Rattle.hac_top.proofs.TickLemmas.{turn-ticks}
 use Rattle.hac_top.proofs.StoringLemmas.{stops-first, storing-turn}
+use Rattle.hac_model.specs.Tree.{raised}
 
 -- events that are all stored
 storing-bare : (setting : Setting) (events : List Event) → filter is_stored events ≡ events → (room : Bool) → have_room setting events ≡ room → IsBare setting (storing_turn setting events)
@@ -39,7 +40,7 @@ storing-bare setting events kept true room =
 storing-bare setting events kept false room = subst (IsBare setting) (sym (storing-turn setting events false room)) (record { own = refl; leads = refl })
 
 settled-bare : (setting : Setting) (outcome : Settled) → CanHappen setting.state (Change outcome) → IsBare setting (settled_turn setting outcome)
-settled-bare setting (settled.Session event) can = record { own = refl; leads = unstored-same setting.state event can.1 }
+settled-bare setting (settled.Session event) can = record { own = refl; leads = ap raised (unstored-same setting.state event can.1) }
 settled-bare setting (settled.Change change) can = storing-bare setting (change.event ∷ []) (ap (λ (b : Bool). if b then change.event ∷ [] else []) can.2) (have_room setting (change.event ∷ [])) refl
 settled-bare setting settled.Checkpoint can =
     elim (next_place setting) as (λ o. IsBare setting (option_map_or (saved_turn setting) o (refused_turn nothing_given setting (Limit Store)))) [

@@ -16,7 +16,6 @@ use Rattle.hac_model.specs.declared.events.Event.{Event}
 use Rattle.hac_model.specs.declared.states.State.{State}
 use Rattle.hac_store.specs.Held.{held}
 use Rattle.hac_store.specs.Stores.{IsNewOrNone, Stands}
-use Rattle.hac_store.proofs.HeldLemmas.{held-stored}
 use Rattle.hac_top.specs.Crashes.{Holds, IsOpened, IsTreeAfter, IsTreeOfAnswered, Reopens, StopsOpening, IsOfFile, opening_outcome}
 use Rattle.hac_top.specs.Ends.{IsFinished, IsOpenStatus, is_disk_fault}
 use Rattle.hac_top.specs.Run.{AnswersBy, Completes, Ends, HasBegun, IsFaultless, IsTreeOf, Outside, Played, Plays, PlaysStore, Ran}
@@ -35,7 +34,7 @@ if-value (Err e) P fact = search rules
 
 -- the file reopens as what the run goes on from
 file-reopens : (fresh : Bool) (file : List ℕ) (kept : Result Setting ℕ) → held file ≡ kept → (setting : Setting) → opening_outcome fresh kept ≡ Ok setting → Reopens fresh (λ s. s ≡ stored setting.state) file
-file-reopens false file (Ok kept) is setting goes = record { kept = kept; is = is; state = let same : kept ≡ setting = cc in sym (held-stored file kept is) ∙ ap (λ (z : Setting). stored z.state) same }
+file-reopens false file (Ok kept) is setting goes = record { kept = kept; is = is; state = let same : kept ≡ setting = cc in ap (λ (z : Setting). stored z.state) same }
 file-reopens false file (Err at) is setting goes = absurd cc
 file-reopens true file (Ok kept) is setting goes = absurd cc
 file-reopens true file (Err at) is setting goes = λ other held_as. absurd (let never : Err at ≡ Ok other = sym is ∙ held_as in cc)
@@ -74,7 +73,7 @@ module _ {D : Type 0} (seen : D → Option (List ℕ)) (image : D → List ℕ �
     where
       of : (file : List ℕ) (setting : Setting) → opening_outcome true (held file) ≡ Ok setting → IsSettled (Some file) (image old) → setting ≡ new_setting → (c : List ℕ) → image old c ⊎ IsNewOrNone c → Reopens true (λ s. s ≡ stored setting.state) c
       of file setting goes settled is c (inl left) = subst (λ (xs : List ℕ). Reopens true (λ s. s ≡ stored setting.state) xs) (sym (settled c left)) (file-reopens true file (held file) refl setting goes)
-      of file setting goes settled is c (inr new) = λ kept held_as. new kept held_as ∙ ap (λ (z : Setting). stored z.state) (sym is)
+      of file setting goes settled is c (inr new) = λ kept held_as. ap stored (new kept held_as) ∙ ap (λ (z : Setting). stored z.state) (sym is)
 
   -- the file was attached before
   pub opens-attached : (fresh : Bool) (old mid new : D) → IsQuiet seen image moment image_since old mid → Opens fresh (seen mid) mid new → Opens fresh (seen old) old new
@@ -88,7 +87,7 @@ module _ {D : Type 0} (seen : D → Option (List ℕ)) (image : D → List ℕ �
 -- what has this, the other has
 reopens-weaker : (fresh : Bool) (P Q : State → Type 0) (image : List ℕ) → ((s : State) → P s → Q s) → Reopens fresh P image → Reopens fresh Q image
 reopens-weaker false P Q image then_q holds = holds-weaker P Q image then_q holds
-reopens-weaker true P Q image then_q holds = λ kept is. then_q kept.state (holds kept is)
+reopens-weaker true P Q image then_q holds = λ kept is. then_q (stored kept.state) (holds kept is)
 
 no-event : (s now : State) (events : List Event) → now ≡ s → IsTreeAfter s events now
 no-event s now events same = record { count = 0; within = omega arith; is = same }

@@ -334,7 +334,7 @@ module _ (given later : Given) (first : Setting) where
         };
         reopens = λ stands c left.
             let holds = was_stored stands c left in
-            record { kept = holds.kept; is = holds.is; state = answered holds.kept.state holds.state stopped.replies.done stopped.place };
+            record { kept = holds.kept; is = holds.is; state = answered (stored holds.kept.state) holds.state stopped.replies.done stopped.place };
         kept = λ _ finished. absurd finished;
       }
 

@@ -5,9 +5,9 @@ use Rattle.std.specs.Option.{option_map_or}
 use Rattle.std.proofs.Math.Seq.{take-length}
 use Rattle.hac_disk.specs.Images.{LeavesOnly}
 use Rattle.hac_disk.proofs.Moments.{started, weaken, then_run}
-use Rattle.hac_model.specs.Tree.Events.{apply_all, apply}
+use Rattle.hac_model.specs.Tree.Events.{apply, apply_all, changed_at, edited, indexed, next_dirty}
 use Rattle.hac_model.specs.Run.Play.{Setting, Turn, after_events, all_events, end_behind, have_room, next_place, nothing_given, refused_turn, stored_setting}
-use Rattle.hac_model.specs.Tree.Sessions.{is_stored, stored}
+use Rattle.hac_model.specs.Tree.Sessions.{is_stored, sessionless, stored}
 use Rattle.hac_model.specs.declared.events.Event.{Event}
 use Rattle.hac_model.specs.declared.limits.LimitWord.TheVariants.{Store}
 use Rattle.hac_model.specs.declared.replies.Refusal.TheVariants.{Limit}
@@ -30,21 +30,35 @@ use Rattle.std.proofs.lemmas.Bool.Decides.{nat_tests}
 use Rattle.std.proofs.lemmas.List.{length-replicate, replicate-append-replicate, take-replicate}
 use Rattle.hac_model.specs.Laws.{AllHappen}
 use Rattle.hac_model.specs.declared.events.Event.TheVariants.{Step}
-use Rattle.hac_model.specs.declared.limits.TheConstants.{STORE_LIMIT}
 use Rattle.hac_model.specs.declared.states.State.{State}
 use Rattle.hac_model.proofs.PlayLemmas.{apply_all-append, end_behind-append, stored-all}
 use Rattle.hac_store.proofs.RoomLemmas.{end-steps, steps-have-room}
 use Rattle.hac_store.proofs.StoredLemmas.{unstored-same}
+use Rattle.hac_model.proofs.VersionLemmas.{apply_all-version}
+use Rattle.hac_model.specs.declared.versions.Version.{Version}
+use Rattle.hac_model.specs.Versions.{store_limit}
 
 -- nothing of the events has happened
 pub held-before : (setting : Setting) (events : List Event) (c : List ℕ) → held c ≡ Ok (stored_setting setting) → Holds (IsTreeAfter (stored setting.state) events) c
 held-before setting events c is = record { kept = stored_setting setting; is = is; state = record { count = 0; within = omega arith; is = refl } }
 
+-- events that are all stored, as each that a store puts into its log
+abbrev AreStored : List Event → Type 0
+AreStored events = filter is_stored events ≡ events
+
+-- what is stored after such events is what they make of what was stored
+after-stored : (s : State) (events : List Event) → AreStored events → stored (apply_all (sessionless s) events) ≡ apply_all (stored s) events
+after-stored s events all = stored-all events (sessionless s) ∙ ap (apply_all (stored s)) all
+
 -- some of them, or all
-held-between : (setting : Setting) (events : List Event) (c : List ℕ) → HeldBetween setting events c → Holds (IsTreeAfter (stored setting.state) events) c
-held-between setting events c (inl before) = held-before setting events c before
-held-between setting events c (inr after) =
-    record { kept = after_events (stored_setting setting) events; is = after; state = record { count = length events; within = omega arith; is = ap (apply_all (stored setting.state)) (sym (take-length events)) } }
+held-between : (setting : Setting) (events : List Event) (c : List ℕ) → AreStored events → HeldBetween setting events c → Holds (IsTreeAfter (stored setting.state) events) c
+held-between setting events c all (inl before) = held-before setting events c before
+held-between setting events c all (inr after) =
+    record {
+      kept = after_events (stored_setting setting) events;
+      is = after;
+      state = record { count = length events; within = omega arith; is = after-stored setting.state events all ∙ ap (apply_all (stored setting.state)) (sym (take-length events)) };
+    }
 
 -- the turn that stores events, given whether there is room for them
 pub storing-turn : (setting : Setting) (events : List Event) (room : Bool) → have_room setting events ≡ room → storing_turn setting events ≡ (if room then turn_with setting (Lines []) events else refused_turn nothing_given setting (Limit Store))
@@ -109,21 +123,21 @@ module _ {D : Type 0} {seen : D → Option (List ℕ)} {image : D → List ℕ �
       (answers-only disk store (Refused (Limit Store)) place)
 
   -- one call, before and after which the store is held
-  once : (old new : D) (before : Seen) (events : List Event) (failed : Bool) → have_room before.setting events ≡ true → (Stands (seen old) (image old) before.setting → LeavesOnly moment image_since old new (HeldBetween before.setting events)) → attached new ≡ attached old →
+  once : (old new : D) (before : Seen) (events : List Event) (failed : Bool) → AreStored events → have_room before.setting events ≡ true → (Stands (seen old) (image old) before.setting → LeavesOnly moment image_since old new (HeldBetween before.setting events)) → attached new ≡ attached old →
       ReportsFault failed (faults old) (faults new) → Stores seen image moment image_since attached faults old new before.setting (all_events (storing_turn before.setting events ∷ [])) failed
-  once old new before events failed room moments names told =
+  once old new before events failed all room moments names told =
       record {
         moments = λ stands.
             subst (λ (es : List Event). LeavesOnly moment image_since old new (Holds (IsTreeAfter (stored before.setting.state) es))) (sym (turn-events before.setting events room))
-            (weaken moment image_since old new (HeldBetween before.setting events) (Holds (IsTreeAfter (stored before.setting.state) events)) (held-between before.setting events) (moments stands));
+            (weaken moment image_since old new (HeldBetween before.setting events) (Holds (IsTreeAfter (stored before.setting.state) events)) (λ c. held-between before.setting events c all) (moments stands));
         names = names;
         reported = told;
       }
 
   module _ {old new : D} {before after : Seen} {events : List Event} where
-    pub stores-once : (result : Result (Unit {0}) StoreFault) → Bears (seen old) before → StoresEvents seen image moment image_since attached faults old new before after events result →
+    pub stores-once : (result : Result (Unit {0}) StoreFault) → AreStored events → Bears (seen old) before → StoresEvents seen image moment image_since attached faults old new before after events result →
         StoresTurn seen image moment image_since attached faults old new before after (storing_turn before.setting events) (storing_reply result)
-    stores-once (Ok done) place went =
+    stores-once (Ok done) all place went =
         let turn = storing-turn before.setting events true went.ends.room in
         record {
           ok = record {
@@ -134,19 +148,19 @@ module _ {D : Type 0} {seen : D → Option (List ℕ)} {image : D → List ℕ �
             stands = went.stands;
           };
           err = tt;
-          stores = once old new before events false went.ends.room went.moments went.names went.reported;
+          stores = once old new before events false all went.ends.room went.moments went.names went.reported;
         }
-    stores-once (Err fault.Full) place went =
+    stores-once (Err fault.Full) all place went =
         subst (λ (store : Seen). StoresTurn seen image moment image_since attached faults old new before store (storing_turn before.setting events) (Ok (Refused (Limit Store)))) (sym went.ends.1.0)
         (subst (λ (disk : D). StoresTurn seen image moment image_since attached faults old disk before before (storing_turn before.setting events) (Ok (Refused (Limit Store)))) (sym went.ends.1.1)
         (full-turn old before events place went.ends.0))
-    stores-once (Err fault.Memory) place went =
+    stores-once (Err fault.Memory) all place went =
         subst (λ (store : Seen). StoresTurn seen image moment image_since attached faults old new before store (storing_turn before.setting events) (Err Memory)) (sym went.ends.0)
         (subst (λ (disk : D). StoresTurn seen image moment image_since attached faults old disk before before (storing_turn before.setting events) (Err Memory)) (sym went.ends.1)
         (stops-first old before (storing_turn before.setting events)))
-    stores-once (Err fault.Disk) place went = record { ok = tt; err = tt; stores = once old new before events true went.ends.0 went.moments went.names went.reported }
-    stores-once (Err (fault.NotStore at)) place went = absurd went.ends
-    stores-once (Err fault.AlreadyStore) place went = absurd went.ends
+    stores-once (Err fault.Disk) all place went = record { ok = tt; err = tt; stores = once old new before events true all went.ends.0 went.moments went.names went.reported }
+    stores-once (Err (fault.NotStore at)) all place went = absurd went.ends
+    stores-once (Err fault.AlreadyStore) all place went = absurd went.ends
 
   -- A new area that is begun with the whole state.
 
@@ -206,7 +220,11 @@ steps count = replicate count Step
 after-steps : (setting : Setting) (n m : ℕ) → after_events (after_events setting (steps n)) (steps m) ≡ after_events setting (steps (n + m))
 after-steps setting n m = λ i. record setting {
   state = (sym (apply_all-append (steps n) (steps m) setting.state) ∙ ap (apply_all setting.state) (replicate-append-replicate n m Step)) i;
-  end = (sym (end_behind-append (steps n) (steps m) setting.end) ∙ ap (end_behind setting.end) (replicate-append-replicate n m Step)) i;
+  end = (
+      (λ i. end_behind (apply_all-version setting.state (steps n) i) (end_behind setting.state.version setting.end (steps n)) (steps m))
+      ∙ sym (end_behind-append setting.state.version (steps n) (steps m) setting.end)
+      ∙ ap (end_behind setting.state.version setting.end) (replicate-append-replicate n m Step)
+      ) i;
 }
 
 -- those behind the first of some steps can happen once these have
@@ -221,14 +239,24 @@ happen-behind s (suc n) m (suc k) few happen = happen-behind (apply s Step) n m 
 part-tree : (s : State) (n k : ℕ) → n ≤ k → IsTreeAfter s (steps k) (apply_all s (steps n))
 part-tree s n k few = record { count = n; within = omega (arith, few, length-replicate k Step); is = ap (apply_all s) (sym (take-replicate n k Step few)) }
 
--- what is stored after steps is what they make of what was stored
+-- steps are stored
+steps-are-stored : (n : ℕ) → AreStored (steps n)
+steps-are-stored zero = refl
+steps-are-stored (suc n) = ap (λ (events : List Event). Step ∷ events) (steps-are-stored n)
+
+-- sessions play no part in steps
+steps-sessionless : (s : State) (n : ℕ) → sessionless (apply_all s (steps n)) ≡ apply_all (sessionless s) (steps n)
+steps-sessionless s zero = refl
+steps-sessionless s (suc n) = steps-sessionless (apply s Step) n ∙ ap (λ (t : State). apply_all t (steps n)) (one (next_dirty s.entries))
+  where
+    one : (o : Option ℕ) → sessionless (option_map_or (λ file. changed_at s file (edited indexed)) o s) ≡ option_map_or (λ file. changed_at (sessionless s) file (edited indexed)) o (sessionless s)
+    one None = refl
+    one (Some file) = refl
+
+-- what a store holds after steps is what they make of what it held
 steps-stored : (setting : Setting) (n : ℕ) → stored_setting (after_events setting (steps n)) ≡ after_events (stored_setting setting) (steps n)
 steps-stored setting n =
-    ap (λ (s : State). record setting { state = s; end = end_behind setting.end (steps n) }) (stored-all (steps n) setting.state ∙ ap (apply_all (stored setting.state)) (kept n))
-  where
-    kept : (n : ℕ) → filter is_stored (steps n) ≡ steps n
-    kept zero = refl
-    kept (suc n) = ap (λ (events : List Event). Step ∷ events) (kept n)
+    ap (λ (s : State). record setting { state = s; end = end_behind setting.state.version setting.end (steps n) }) (steps-sessionless setting.state n)
 
 -- the steps of one part are some of all, where they happen behind the first ones
 part-held : (setting : Setting) (done batch count : ℕ) (c : List ℕ) → done + batch ≤ count → HeldBetween (after_events setting (steps done)) (steps batch) c → Holds (IsTreeAfter (stored setting.state) (steps count)) c
@@ -236,13 +264,16 @@ part-held setting done batch count c few (inl before) =
     record {
       kept = after_events (stored_setting setting) (steps done);
       is = before ∙ ap Ok (steps-stored setting done);
-      state = part-tree (stored setting.state) done count (omega (arith, few));
+      state = part-now done (omega (arith, few));
     }
+  where
+    part-now : (n : ℕ) → n ≤ count → IsTreeAfter (stored setting.state) (steps count) (stored (apply_all (sessionless setting.state) (steps n)))
+    part-now n few = subst (IsTreeAfter (stored setting.state) (steps count)) (sym (after-stored setting.state (steps n) (steps-are-stored n))) (part-tree (stored setting.state) n count few)
 part-held setting done batch count c few (inr after) =
     record {
       kept = after_events (stored_setting setting) (steps (done + batch));
       is = after ∙ ap Ok (ap (λ (z : Setting). after_events z (steps batch)) (steps-stored setting done) ∙ after-steps (stored_setting setting) done batch);
-      state = part-tree (stored setting.state) (done + batch) count few;
+      state = subst (IsTreeAfter (stored setting.state) (steps count)) (sym (after-stored setting.state (steps (done + batch)) (steps-are-stored (done + batch)))) (part-tree (stored setting.state) (done + batch) count few);
     }
 
 -- the tree after some of the events of the turn that stores steps
@@ -250,16 +281,16 @@ abbrev HoldsSome : Setting → ℕ → List ℕ → Type 0
 HoldsSome setting count c = Holds (IsTreeAfter (stored setting.state) (all_events (storing_turn setting (steps count) ∷ []))) c
 
 -- where all steps have room, so does a part behind the first ones
-part-room : (end done batch count : ℕ) → done + batch ≤ count → 0 < batch → fit_behind end count 2 ≡ true → fit_behind (end_behind end (steps done)) batch 2 ≡ true
-part-room end done batch count few some fits =
-    let at : end_behind end (steps done) ≡ end + done * 7 = end-steps done end in
+part-room : (version : Version) (end done batch count : ℕ) → done + batch ≤ count → 0 < batch → fit_behind version end count 2 ≡ true → fit_behind version (end_behind version end (steps done)) batch 2 ≡ true
+part-room version end done batch count few some fits =
+    let at : end_behind version end (steps done) ≡ end + done * 7 = end-steps version done end in
     let more : (count == 0) ≡ false = grind (arith, nat_tests, few, some) in
-    let below : end + count * 7 < STORE_LIMIT = grind (arith, nat_tests, fits, more) in
+    let below : end + count * 7 < store_limit version = grind (arith, nat_tests, fits, more) in
     grind (arith, nat_tests, at, below, few)
 
 -- of all steps, for which there is room, the first ones have happened; a crash since then leaves some of all
 pub record Stepped {D : Type 0} (seen : D → Option (List ℕ)) (image : D → List ℕ → Type 0) (moment : D → ℕ) (image_since : D → ℕ → List ℕ → Type 0) (attached : D → Option (List (List ℕ × Bool))) (faults : D → ℕ) (old now : D) (first store : Seen) (done count : ℕ) : Type 0 where
-  pub room : fit_behind first.setting.end count 2 ≡ true
+  pub room : fit_behind first.setting.state.version first.setting.end count 2 ≡ true
   pub store_is : store ≡ store_after first (steps done)
   pub place : Bears (seen now) store
   pub stands : Stands (seen old) (image old) first.setting → Stands (seen now) (image now) store.setting
@@ -269,7 +300,7 @@ pub record Stepped {D : Type 0} (seen : D → Option (List ℕ)) (image : D → 
 
 module _ {D : Type 0} {seen : D → Option (List ℕ)} {image : D → List ℕ → Type 0} {moment : D → ℕ} {image_since : D → ℕ → List ℕ → Type 0} {attached : D → Option (List (List ℕ × Bool))} {faults : D → ℕ} where
   -- none has happened yet
-  pub none-stepped : ((disk : D) (c : List ℕ) → image_since disk (moment disk) c → image disk c) → (disk : D) (first : Seen) (done count : ℕ) → done ≡ 0 → fit_behind first.setting.end count 2 ≡ true → Bears (seen disk) first → Stepped seen image moment image_since attached faults disk disk first first done count
+  pub none-stepped : ((disk : D) (c : List ℕ) → image_since disk (moment disk) c → image disk c) → (disk : D) (first : Seen) (done count : ℕ) → done ≡ 0 → fit_behind first.setting.state.version first.setting.end count 2 ≡ true → Bears (seen disk) first → Stepped seen image moment image_since attached faults disk disk first first done count
   none-stepped only_now disk first done count none room place =
       let events = all_events (storing_turn first.setting (steps count) ∷ []) in
       let nothing : Stores seen image moment image_since attached faults disk disk first.setting events false = stores-nothing only_now disk first.setting events in
@@ -338,8 +369,10 @@ module _ {D : Type 0} {seen : D → Option (List ℕ)} {image : D → List ℕ �
       part-stopped some fault.Disk went = record { ok = tt; err = tt; stores = stopped true fault.Disk went went.reported }
       part-stopped some fault.Memory went = record { ok = tt; err = tt; stores = stopped false fault.Memory went went.reported }
       part-stopped some fault.Full went =
-          let fits : fit_behind store.setting.end batch 2 ≡ true =
-          subst (λ (z : Seen). fit_behind z.setting.end batch 2 ≡ true) (sym was.store_is) (part-room first.setting.end done batch count few some was.room) in
+          let fits : fit_behind store.setting.state.version store.setting.end batch 2 ≡ true =
+          subst (λ (z : Seen). fit_behind z.setting.state.version z.setting.end batch 2 ≡ true) (sym was.store_is)
+          (subst (λ (version : Version). fit_behind version (end_behind first.setting.state.version first.setting.end (steps done)) batch 2 ≡ true) (sym (apply_all-version first.setting.state (steps done)))
+          (part-room first.setting.state.version first.setting.end done batch count few some was.room)) in
           let never : false ≡ true = sym went.ends.0 ∙ steps-have-room store.setting batch ∙ fits in
           absurd cc
       part-stopped some (fault.NotStore at) went = absurd went.ends

@@ -27,6 +27,8 @@ use Rattle.hac_store.proofs.RoomLemmas.{end-steps, steps-have-room}
 use Rattle.hac_top.specs.Run.{given_after}
 use Rattle.hac_top.specs.Ticking.{ticking}
 use Rattle.std.proofs.lemmas.List.{drop-drop}
+use Rattle.hac_model.proofs.VersionLemmas.{apply-version}
+use Rattle.hac_model.specs.declared.versions.Version.{Version}
 
 -- The turn of a line is that without steps, and the steps behind it.
 
@@ -98,48 +100,50 @@ and-both : (a b : Bool) → a ≡ true → b ≡ true → (a && b) ≡ true
 and-both a b first second = ap (λ (x : Bool). x && b) first ∙ second
 
 -- where more than one has room, one has, and the others have room behind it
-first-fits : (end n : ℕ) → fit_behind end (suc n) 2 ≡ true → fit_behind end 1 2 ≡ true
-first-fits end n fits = grind (arith, nat_tests, fits)
+first-fits : (version : Version) (end n : ℕ) → fit_behind version end (suc n) 2 ≡ true → fit_behind version end 1 2 ≡ true
+first-fits version end n fits = grind (arith, nat_tests, fits)
 
-next-fits : (end n : ℕ) → fit_behind end (suc n) 2 ≡ true → fit_behind (end + 7) n 2 ≡ true
-next-fits end n fits = grind (arith, nat_tests, fits)
+next-fits : (version : Version) (end n : ℕ) → fit_behind version end (suc n) 2 ≡ true → fit_behind version (end + 7) n 2 ≡ true
+next-fits version end n fits = grind (arith, nat_tests, fits)
 
-next-full : (end n : ℕ) → fit_behind end (suc n + 1) 2 ≡ false → fit_behind (end + 7) (n + 1) 2 ≡ false
-next-full end n full = grind (arith, nat_tests, full)
+next-full : (version : Version) (end n : ℕ) → fit_behind version end (suc n + 1) 2 ≡ false → fit_behind version (end + 7) (n + 1) 2 ≡ false
+next-full version end n full = grind (arith, nat_tests, full)
 
 -- one step has room where one record has
-one-room : (setting : Setting) (b : Bool) → fit_behind setting.end 1 2 ≡ b → have_room setting (Step ∷ []) ≡ b
+one-room : (setting : Setting) (b : Bool) → fit_behind setting.state.version setting.end 1 2 ≡ b → have_room setting (Step ∷ []) ≡ b
 one-room setting b fits = steps-have-room setting 1 ∙ fits
 
 -- as many steps follow as may, as there are dirty files, or as have room, whichever is least
-pub steps-counted : (tick count : ℕ) (setting : Setting) → IsValid setting.state → count ≤ tick → count ≤ dirty setting.state → fit_behind setting.end count 2 ≡ true →
-    ((count ≡ tick) ⊎ (count ≡ dirty setting.state)) ⊎ (fit_behind setting.end (count + 1) 2 ≡ false) → steps_behind tick setting ≡ replicate count Step
+pub steps-counted : (tick count : ℕ) (setting : Setting) → IsValid setting.state → count ≤ tick → count ≤ dirty setting.state → fit_behind setting.state.version setting.end count 2 ≡ true →
+    ((count ≡ tick) ⊎ (count ≡ dirty setting.state)) ⊎ (fit_behind setting.state.version setting.end (count + 1) 2 ≡ false) → steps_behind tick setting ≡ replicate count Step
 steps-counted zero zero setting h few files fits most = refl
 steps-counted zero (suc count) setting h few files fits most = absurd (omega (arith, few))
 steps-counted (suc tick) zero setting h few files fits most =
     ap (λ (b : Bool). if b then Step ∷ steps_behind tick (after_events setting (Step ∷ [])) else []) (stuck most)
   where
-    stuck : ((0 ≡ suc tick) ⊎ (0 ≡ dirty setting.state)) ⊎ (fit_behind setting.end 1 2 ≡ false) → can_step setting ≡ false
+    stuck : ((0 ≡ suc tick) ⊎ (0 ≡ dirty setting.state)) ⊎ (fit_behind setting.state.version setting.end 1 2 ≡ false) → can_step setting ≡ false
     stuck (inl (inl none)) = absurd (omega (arith, none))
     stuck (inl (inr clean)) = and-left (nat_lt 0 (dirty setting.state)) (have_room setting (Step ∷ [])) (grind (arith, nat_tests, clean))
     stuck (inr full) = and-right (nat_lt 0 (dirty setting.state)) (have_room setting (Step ∷ [])) (one-room setting false full)
 steps-counted (suc tick) (suc count) setting h few files fits most =
     let some : nat_lt 0 (dirty setting.state) ≡ true = grind (arith, nat_tests, files) in
     let due : IsTrue (accepted setting.state Step) = steps-due setting.state h.layout ∙ some in
-    let can : can_step setting ≡ true = and-both (nat_lt 0 (dirty setting.state)) (have_room setting (Step ∷ [])) some (one-room setting true (first-fits setting.end count fits)) in
+    let can : can_step setting ≡ true = and-both (nat_lt 0 (dirty setting.state)) (have_room setting (Step ∷ [])) some (one-room setting true (first-fits setting.state.version setting.end count fits)) in
     let clean : dirty setting.state ≡ dirty (apply setting.state Step) + 1 = steps-clean setting.state h.layout due in
     let next = after_events setting (Step ∷ []) in
-    let end : end_behind setting.end (Step ∷ []) ≡ setting.end + 7 = end-steps 1 setting.end in
+    let end : end_behind setting.state.version setting.end (Step ∷ []) ≡ setting.end + 7 = end-steps setting.state.version 1 setting.end in
+    let same : next.state.version ≡ setting.state.version = apply-version setting.state Step in
     ap (λ (b : Bool). if b then Step ∷ steps_behind tick next else []) can
     ∙ ap (λ (events : List Event). Step ∷ events)
     (steps-counted tick count next (apply-valid setting.state Step h due) (omega (arith, few)) (omega (arith, files, clean))
-    (ap (λ (n : ℕ). fit_behind n count 2) end ∙ next-fits setting.end count fits) (fewer most clean end))
+    ((λ i. fit_behind (same i) (end i) count 2) ∙ next-fits setting.state.version setting.end count fits) (fewer most clean same end))
   where
-    fewer : ((suc count ≡ suc tick) ⊎ (suc count ≡ dirty setting.state)) ⊎ (fit_behind setting.end (suc count + 1) 2 ≡ false) → dirty setting.state ≡ dirty (apply setting.state Step) + 1 → end_behind setting.end (Step ∷ []) ≡ setting.end + 7 →
-        ((count ≡ tick) ⊎ (count ≡ dirty (apply setting.state Step))) ⊎ (fit_behind (end_behind setting.end (Step ∷ [])) (count + 1) 2 ≡ false)
-    fewer (inl (inl all)) clean end = inl (inl (omega (arith, all)))
-    fewer (inl (inr last)) clean end = inl (inr (omega (arith, last, clean)))
-    fewer (inr full) clean end = inr (ap (λ (n : ℕ). fit_behind n (count + 1) 2) end ∙ next-full setting.end count full)
+    fewer : ((suc count ≡ suc tick) ⊎ (suc count ≡ dirty setting.state)) ⊎ (fit_behind setting.state.version setting.end (suc count + 1) 2 ≡ false) → dirty setting.state ≡ dirty (apply setting.state Step) + 1 → (apply setting.state Step).version ≡ setting.state.version →
+        end_behind setting.state.version setting.end (Step ∷ []) ≡ setting.end + 7 →
+        ((count ≡ tick) ⊎ (count ≡ dirty (apply setting.state Step))) ⊎ (fit_behind (apply setting.state Step).version (end_behind setting.state.version setting.end (Step ∷ [])) (count + 1) 2 ≡ false)
+    fewer (inl (inl all)) clean same end = inl (inl (omega (arith, all)))
+    fewer (inl (inr last)) clean same end = inl (inr (omega (arith, last, clean)))
+    fewer (inr full) clean same end = inr ((λ i. fit_behind (same i) (end i) (count + 1) 2) ∙ next-full setting.state.version setting.end count full)
 
 -- the same, told by the room for the steps themselves
 pub steps-are-due : (tick wanted count : ℕ) (setting : Setting) → IsValid setting.state → wanted ≡ min tick (dirty setting.state) → count ≤ wanted →

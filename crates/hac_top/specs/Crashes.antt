@@ -9,6 +9,7 @@ use Rattle.hac_store.specs.declared.fault.StoreFault.{StoreFault}
 use Rattle.hac_top.specs.Ends.{store_status}
 use Rattle.hac_top.specs.declared.status.Status.{Status}
 use Rattle.hac_top.specs.declared.status.Status.TheVariants.{DiskFault, NotStore, Memory, AlreadyStore}
+use Rattle.hac_model.specs.Tree.Sessions.{stored}
 
 -- what a run goes on from, given whether a new store is asked for and what the file holds; or the status with which it
 -- ends
@@ -46,16 +47,16 @@ pub record IsTreeAfter (s : State) (events : List Event) (now : State) : Type 0 
   pub within : count ≤ length events
   pub is : now ≡ apply_all s (take count events)
 
--- the image is held, with a state such as this
+-- the image is held, and what is stored of its state is such as this
 pub record Holds (P : State → Type 0) (image : List ℕ) : Type 0 where
   pub kept : Setting
   pub is : IsHeldAs image kept
-  pub state : P kept.state
+  pub state : P (stored kept.state)
 
 -- the same; or the image holds no store, as may be where a new one was asked for
 abbrev pub Reopens : Bool → (State → Type 0) → List ℕ → Type 0
 Reopens false P image = Holds P image
-Reopens true P image = (kept : Setting) → IsHeldAs image kept → P kept.state
+Reopens true P image = (kept : Setting) → IsHeldAs image kept → P (stored kept.state)
 
 -- `done` turns were answered. The state is the tree after a prefix of their events which holds the events of each
 -- answered command, and of those behind them at most the steps that follow the last one by themselves and then those

@@ -3,13 +3,13 @@ ghost use Rattle.std.specs.Prelude.{IfOk, IsTrue};
 ghost use Rattle.hac_model.specs.Tree.Sessions.{is_stored};
 
 use hac_core::{LoadFault, Machine, Replay};
-use hac_model::{Event, Kind, Mark, Memory, Name, Number, Query, Seq, Term};
+use hac_model::{Event, Kind, Mark, Memory, Name, Number, Query, Seq, Term, Version};
 use std::alloc::{AllocError, Global};
 use std::test::Fail;
 
 #[test]
 fn tells_which_events_can_happen(rt: HostRuntime) -> Result<(), Fail> {
-    let mut replay = Replay::new(rt.alloc())?;
+    let mut replay = Replay::new(rt.alloc(), Version::Two)?;
     let told = which_happen(rt.alloc(), &mut replay);
     drop(replay);
     assert_eq!(rt; told?, [true, false, true, false, true, false]);
@@ -30,7 +30,7 @@ fn which_happen(alloc: Global, replay: &mut Replay) -> Result<[bool; 6], Memory>
 
 #[test]
 fn prohibits_what_is_found(rt: HostRuntime) -> Result<(), Fail> {
-    let mut replay = Replay::new(rt.alloc())?;
+    let mut replay = Replay::new(rt.alloc(), Version::Two)?;
     let told = which_prohibit(rt.alloc(), &mut replay);
     drop(replay);
     assert_eq!(rt; told?, [true, true, false, true, true, false]);
@@ -52,7 +52,7 @@ fn which_prohibit(alloc: Global, replay: &mut Replay) -> Result<[bool; 6], Memor
 
 #[test]
 fn goes_on_from_what_was_stored(rt: HostRuntime) -> Result<(), Fail> {
-    let mut replay = Replay::new(rt.alloc())?;
+    let mut replay = Replay::new(rt.alloc(), Version::Two)?;
     let before = which_prohibit(rt.alloc(), &mut replay);
     let machine = replay.machine()?;
     let told = which_happen_again(rt.alloc(), &machine);

@@ -1,4 +1,6 @@
-use Rattle.std.proofs.Common.{sym, ◌∙◌}
+use Rattle.std.proofs.Common.{ap, sym, ◌∙◌}
+use Rattle.hac_model.specs.declared.versions.Version.{Version}
+use Rattle.hac_core.specs.Fitting.{passes_none}
 use Rattle.hac_core.proofs.FittingLemmas.{accepts, not-placed, not-within}
 use Rattle.hac_core.proofs.fitting.fits.Goals as goal
 
@@ -7,11 +9,12 @@ returns-then-not-branch c = not-placed c.args.kept.now.state c.args.event.now (s
 
 pub returns-then-not-passes_none : goal.returns-then-not-passes_none
 returns-then-not-passes_none c =
-    not-within c.args.kept.now.state c.args.event.now c.counts_after-counts.result c.counts_after-counts.ensures (sym c.passes_none.ensures ∙ c.if-not-passes_none.true)
+    not-within c.args.kept.now.state c.args.event.now c.counts_after-counts.result c.counts_after-counts.ensures
+    (ap (λ (v : Version). passes_none v c.counts_after-counts.result) (sym c.version.ensures) ∙ sym c.passes_none.ensures ∙ c.if-not-passes_none.true)
 
 pub returns-then-branch : goal.returns-then-branch
 returns-then-branch c =
     let placed = sym c.in_ok-is_placed.ensures ∙ c.if-not-branch.false in
-    let within = sym c.passes_none.ensures ∙ c.if-not-passes_none.false in
+    let within = ap (λ (v : Version). passes_none v c.counts_after-counts.result) (sym c.version.ensures) ∙ sym c.passes_none.ensures ∙ c.if-not-passes_none.false in
     let clear = sym c.in_ok-is_clear.ensures ∙ c.if-branch.true in
     (accepts c.args.kept.now.state c.args.event.now c.counts_after-counts.result placed c.counts_after-counts.ensures within clear, c.counts_after-counts.ensures)

@@ -3,7 +3,7 @@ use Rattle.std.specs.Prelude.{◌&&◌}
 use Rattle.std.proofs.lemmas.Bool.{and_parts}
 use Rattle.hac_model.specs.Script.SpaceNames.{is_space_name}
 use Rattle.hac_model.specs.Tree.Events.{is_free}
-use Rattle.hac_model.specs.Tree.Mounting.{are_documents}
+use Rattle.hac_model.specs.Tree.Mounting.{are_documents, are_documents_few}
 use Rattle.hac_model.specs.declared.terms.Term.{Term}
 use Rattle.hac_model.proofs.MountLayoutLemmas.{documents-parts}
 use Rattle.hac_core.specs.Mounting.{are_told_by, will_have}
@@ -17,12 +17,14 @@ overflow_add-get c = omega (arith, one-more c.tree-tree.result.now.state c.next_
 pub returns-then-not-may_come : goal.returns-then-not-may_come
 returns-then-not-may_come c =
     sym (mount-not c.args.kept.now.state c.tree-tree.result.now.state c.tree-tree.ensures.tree.bares c.args.dir c.args.name.now c.args.space.now c.args.documents.now c.args.told.now
-    (ap (λ (names : List (List ℕ)). is_free c.tree-tree.result.now.state c.args.dir c.args.name.now && is_space_name c.args.space.now && are_documents names) (sym c.as_slice-names.ensures) ∙ sym c.may_come.ensures ∙ c.if-not-may_come.true))
+    (ap (λ (names : List (List ℕ)). is_free c.tree-tree.result.now.state c.args.dir c.args.name.now && is_space_name c.args.space.now && are_documents names && are_documents_few c.tree-tree.result.now.state.version names) (sym c.as_slice-names.ensures) ∙ sym c.may_come.ensures ∙ c.if-not-may_come.true))
 
 pub are_told-requires : goal.are_told-requires
 are_told-requires c =
     let come = sym c.may_come.ensures ∙ c.if-not-may_come.false in
-    (documents-parts c.as_slice-names.result.now (and_parts (is_free c.tree-tree.result.now.state c.args.dir c.args.name.now && is_space_name c.args.space.now) (are_documents c.as_slice-names.result.now) come).1).1
+    let names = c.as_slice-names.result.now in
+    let front = (and_parts (is_free c.tree-tree.result.now.state c.args.dir c.args.name.now && is_space_name c.args.space.now && are_documents names) (are_documents_few c.tree-tree.result.now.state.version names) come).0 in
+    (documents-parts names (and_parts (is_free c.tree-tree.result.now.state c.args.dir c.args.name.now && is_space_name c.args.space.now) (are_documents names) front).1).1
 
 pub returns : goal.returns
 returns c =
@@ -32,7 +34,7 @@ returns c =
     c.are_told.ensures
     ∙ (λ i. are_told_by (will_have t (c.as_slice-names.ensures i) coming) (length c.as_slice.result.now) (c.as_slice-2.ensures i))
     ∙ mount-told s t c.tree-tree.ensures.tree.bares c.args.dir c.args.name.now c.args.space.now c.args.documents.now c.args.told.now c.tree-tree.ensures.valid.layout
-    (ap (λ (names : List (List ℕ)). is_free t c.args.dir c.args.name.now && is_space_name c.args.space.now && are_documents names) (sym c.as_slice-names.ensures) ∙ sym c.may_come.ensures ∙ c.if-not-may_come.false)
+    (ap (λ (names : List (List ℕ)). is_free t c.args.dir c.args.name.now && is_space_name c.args.space.now && are_documents names && are_documents_few t.version names) (sym c.as_slice-names.ensures) ∙ sym c.may_come.ensures ∙ c.if-not-may_come.false)
     coming (length c.as_slice.result.now) c.next_number-mount.ensures.number
     (omega (arith, c.new.ensures, c.get.ensures, c.next_number-mount.ensures.number))
     (ap (λ (names : List (List ℕ)). length names) c.as_slice-names.ensures)

@@ -1,13 +1,13 @@
 use Rattle.std.proofs.Common.{List, ℕ, ◌++◌, length, take, sym, ◌∙◌, arith, ap}
 use Rattle.hac_journal.specs.Records.{contents_of, record_of, records_of}
-use Rattle.hac_journal.proofs.RecordLemmas.{payload_within, records_taken}
+use Rattle.hac_journal.proofs.RecordLemmas.{records_taken, short-at}
 use Rattle.hac_journal.proofs.records.log_bytes.Goals as goal
 
 pub push_record-requires : goal.push_record-requires
 push_record-requires c =
-    let within = payload_within c.args.payloads.now c.loop-payload.payload-index c.payload-item.result c.loop-payload-test.true in
+    let short = short-at c.args.payloads.now c.loop-payload.payload-index c.payload-item.result c.loop-payload-test.true c.requires in
     let payload = ap (λ v. length v.items) c.payload-item.is in
-    omega (arith, within, payload, ap length c.deref.ensures.value)
+    omega (arith, short, payload, ap length c.deref.ensures.value)
 
 pub loop-payload-preserved : goal.loop-payload-preserved
 loop-payload-preserved c =

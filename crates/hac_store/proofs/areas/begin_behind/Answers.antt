@@ -17,4 +17,5 @@ returns-in_ok-replay-clause-area c = λ file found.
 
 pub returns-else-is_state-clause-area : goal.returns-else-is_state-clause-area
 returns-else-is_state-clause-area c = λ file found.
-    begun-event c.args.start file c.args.payload.now c.args.next c.begin_empty.result found (sym c.is_state.ensures ∙ c.if-is_state.false) c.begin_empty.ensures.begun c.begin_empty.ensures.memory
+    let begun = rw c.first_version.ensures at c.begin_empty.ensures.begun in
+    begun-event c.args.start file c.args.payload.now c.args.next c.begin_empty.result found (sym c.is_state.ensures ∙ c.if-is_state.false) begun c.begin_empty.ensures.memory

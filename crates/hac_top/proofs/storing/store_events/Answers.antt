@@ -1,11 +1,16 @@
-use Rattle.std.proofs.Common.{Err, ap, ◌∙◌}
+use Rattle.std.proofs.Common.{Bool, cond, [], ◌∷◌, Err, ap, ◌∙◌}
 use Rattle.std.proofs.lemmas.Result.{err_from_is_err_and}
+use Rattle.hac_model.specs.declared.events.Event.{Event}
 use Rattle.hac_top.specs.Deciding.{standing_turn}
 use Rattle.hac_top.proofs.StoringLemmas.{moves-session, stops-first, stores-once, stores-saved}
 use Rattle.hac_top.proofs.storing.store_events.Goals as goal
 
 pub returns-in-Change : goal.returns-in-Change
-returns-in-Change g c = rw c.in-Change.is (stores-once g.met.D.Disk.only_now c.command.result c.requires.place c.command.ensures)
+returns-in-Change g c =
+    let can = rw c.in-Change.is at c.requires.can in
+    let event : Event = c.in-Change.change.event in
+    let all = ap (λ (b : Bool). cond b (event ∷ []) []) can.2 in
+    rw c.in-Change.is (stores-once g.met.D.Disk.only_now c.command.result all c.requires.place c.command.ensures)
 
 pub returns-in_ok-stand-in-Session : goal.returns-in_ok-stand-in-Session
 returns-in_ok-stand-in-Session g c =

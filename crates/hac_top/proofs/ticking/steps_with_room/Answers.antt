@@ -13,4 +13,4 @@ pub returns-clause-most : goal.returns-clause-most
 returns-clause-most c =
     let was = c.loop-past.invariant in
     let next : c.loop-past.fits + 1 ≡ c.loop-past.past = omega (arith, was.some, c.loop-past-test.false) in
-    inr (steps-have-room c.args.store.now.setting (c.loop-past.fits + 1) ∙ ap (λ n. fit_behind c.args.store.now.setting.end n 2) next ∙ was.full)
+    inr (steps-have-room c.args.store.now.setting (c.loop-past.fits + 1) ∙ ap (λ n. fit_behind c.args.store.now.setting.state.version c.args.store.now.setting.end n 2) next ∙ was.full)

@@ -8,8 +8,8 @@ invariant-loop-past l =
     record {
       within : l.past ≤ l.fn.wanted;
       some : l.fits < l.past;
-      room : fit_behind l.fn.store.setting.end l.fits 2 ≡ true;
-      full : fit_behind l.fn.store.setting.end l.past 2 ≡ false;
+      room : fit_behind l.fn.store.setting.state.version l.fn.store.setting.end l.fits 2 ≡ true;
+      full : fit_behind l.fn.store.setting.state.version l.fn.store.setting.end l.past 2 ≡ false;
     }
 
 abbrev pub decreases-loop-past : goal.decreases-loop-past

@@ -1,5 +1,8 @@
-use Rattle.std.proofs.Common.{◌≡◌, ap, refl, subst}
+use Rattle.std.proofs.Common.{◌≡◌, IsTrue, ap, refl, subst, sym, ◌∙◌}
+use Rattle.hac_model.specs.Payload.Payloads.{is_spellable}
 use Rattle.hac_model.specs.Tree.Valid.{IsValid}
+use Rattle.hac_model.specs.declared.states.State.{State}
+use Rattle.hac_model.specs.declared.versions.Version.{Version}
 use Rattle.hac_model.proofs.SpelledLemmas.{accepted-spelled}
 use Rattle.hac_store.specs.Stores.{Seen}
 use Rattle.hac_store.proofs.PutLemmas.{none-stored}
@@ -8,7 +11,9 @@ use Rattle.hac_store.proofs.store.Store.command.Goals as goal
 pub write_event-requires : goal.write_event-requires
 write_event-requires g c =
     let state : c.self.inside.machine.state ≡ c.args.self.now.setting.state = ap (λ (x : Seen). x.setting.state) c.self.view_is in
-    accepted-spelled c.args.self.now.setting.state c.args.change.event (subst IsValid state c.self.invariant.0) c.requires.can.2 c.requires.can.0.0
+    let version = c.version.ensures ∙ ap (λ (t : State). t.version) state in
+    subst (λ (v : Version). IsTrue (is_spellable v c.args.change.event)) (sym version)
+    (accepted-spelled c.args.self.now.setting.state c.args.change.event (subst IsValid state c.self.invariant.0) c.requires.can.2 c.requires.can.0.0)
 
 pub returns-in-Err : goal.returns-in-Err
 returns-in-Err g c = none-stored g.met.D.Disk.only_now refl (refl, refl) refl

@@ -1,9 +1,13 @@
 use Rattle.std.proofs.Common.{◌≡◌, ◌≤◌, ℕ, IfSome, List, [], arith, inr, inl, ◌∙◌, Err, ap, refl, subst, sym, true}
 use Rattle.std.proofs.lemmas.Result.{err_from_is_err_and}
 use Rattle.hac_disk.specs.Contents.{Written}
-use Rattle.hac_journal.specs.Records.{contents_of, log_of}
+use Rattle.hac_journal.specs.Records.{AreShort, contents_of, log_of}
 use Rattle.hac_model.specs.Laws.{AllHappen}
+use Rattle.hac_model.specs.Run.Play.{end_behind}
+use Rattle.hac_model.specs.Tree.Sessions.{sessionless}
 use Rattle.hac_model.specs.Tree.Valid.{IsValid}
+use Rattle.hac_model.specs.Versions.{store_limit}
+use Rattle.hac_model.specs.declared.states.State.{State}
 use Rattle.hac_model.proofs.EventLemmas.{all-valid}
 use Rattle.hac_core.specs.Seen.{Seen as Kept}
 use Rattle.hac_core.specs.Drafts.{settled_events}
@@ -12,7 +16,7 @@ use Rattle.hac_checkpoint.specs.declared.heads.Root.{Root}
 use Rattle.hac_store.specs.Stores.{Seen, Stands, root_by}
 use Rattle.hac_store.proofs.LogLemmas.{end-grows}
 use Rattle.hac_store.proofs.PutLemmas.{can-happen, none-stored, put-moments, put-root, put-seen, put-stands, put-state}
-use Rattle.hac_store.proofs.StoredLemmas.{all-stored, stored-leads}
+use Rattle.hac_store.proofs.StoredLemmas.{all-stored, stored-leads, texts-short}
 use Rattle.hac_store.proofs.RoomLemmas.{end-is, has-room, no-room}
 use Rattle.hac_store.proofs.store.Store.put.Goals as goal
 
@@ -22,11 +26,20 @@ invariant_of-self-in-Ok g c =
     let s = c.self.inside.machine.state in
     let state : c.args.self.now.setting.state ≡ s = ap (λ (x : Seen). x.setting.state) (sym c.self.view_is) in
     let after = put-state c.self.inside.machine c.prepare.new.self c.commit.new.self events c.in_ok-prepare.ensures.ok c.commit.ensures in
-    let end = c.in-Ok.ensures.end ∙ end-is c.args.payloads.now events c.self.inside.end c.requires.texts in
+    let end = c.in-Ok.ensures.end ∙ end-is c.args.self.now.setting.state.version c.args.payloads.now events c.self.inside.end c.requires.texts in
     let happen = subst (λ t. AllHappen t events) state (can-happen c.args.self.now.setting.state c.args.settled c.requires.can) in (
       subst IsValid (sym after) (all-valid events s c.self.invariant.0 happen),
-      omega (arith, c.self.invariant.1, end, end-grows events c.self.inside.end),
+      omega (arith, c.self.invariant.1, end, end-grows c.args.self.now.setting.state.version events c.self.inside.end),
     )
+
+pub append-requires-clause-short : goal.append-requires-clause-short
+append-requires-clause-short g c =
+    let z = c.args.self.now.setting in
+    let events = settled_events c.args.settled in
+    let state : c.self.inside.machine.state ≡ z.state = ap (λ (x : Seen). x.setting.state) c.self.view_is in
+    let happen = can-happen z.state c.args.settled c.requires.can in
+    let stored = all-stored z.state.version events z.state refl (subst IsValid state c.self.invariant.0) happen c.requires.stored in
+    subst AreShort (sym c.requires.texts) (texts-short z.state.version events (sessionless z.state) stored)
 
 pub returns-in_err-prepare : goal.returns-in_err-prepare
 returns-in_err-prepare g c =
@@ -47,11 +60,13 @@ returns-in-Ok g c =
     let state : c.self.inside.machine.state ≡ z.state = ap (λ (x : Seen). x.setting.state) c.self.view_is in
     let valid = subst IsValid state c.self.invariant.0 in
     let happen = can-happen c.args.self.now.setting.state c.args.settled c.requires.can in
-    let stored = all-stored events z.state valid happen c.requires.stored in
-    let full = rw size at c.in-Ok.ensures.full in
+    let stored = all-stored z.state.version events z.state refl valid happen c.requires.stored in
+    let limit = c.store_limit-limit.ensures ∙ ap store_limit (c.version.ensures ∙ ap (λ (t : State). t.version) state) in
+    let full = rw (size, limit) at c.in-Ok.ensures.full in
     let after = put-state c.self.inside.machine c.prepare.new.self c.commit.new.self events c.in_ok-prepare.ensures.ok c.commit.ensures in
     let is = put-seen c.args.self.now c.self.inside.machine.state c.commit.new.self.state c.self.inside.start c.self.inside.end c.self.inside.generation c.in-Ok.end c.self.inside.slot c.self.inside.broken events
-    c.self.view_is after (c.in-Ok.ensures.end ∙ end-is c.args.payloads.now events c.self.inside.end c.requires.texts) in
+    c.self.view_is after
+    (c.in-Ok.ensures.end ∙ end-is z.state.version c.args.payloads.now events c.self.inside.end c.requires.texts ∙ ap (λ (t : State). end_behind t.version c.self.inside.end events) (sym state)) in
     record {
       ends = record {
         room = has-room c.args.payloads.now events z c.requires.texts (λ past. let never = full.1 past in cc);
@@ -71,11 +86,11 @@ returns-in-Ok g c =
       stands = λ stands.
           subst (λ (x : Seen). Stands (g.D.Disk.seen c.append.new.disk) (g.D.Disk.image c.append.new.disk) x.setting) (sym is)
           (put-stands (disk.seen old) (disk.seen new) (disk.image old) (disk.image new) z events c.args.payloads.now
-          (g.met.D.Disk.read_is_image c.args.disk.now) c.requires.texts stored (stored-leads events z.state valid happen c.requires.stored) (λ past. let never = full.1 past in cc)
+          (g.met.D.Disk.read_is_image c.args.disk.now) c.requires.texts stored (stored-leads events z.state valid happen c.requires.stored)
           (rw size at c.in-Ok.ensures.written) c.in-Ok.ensures.settled stands);
       moments =
           put-moments disk.seen disk.image disk.moment disk.image_since g.met.D.Disk.only_now old new z events c.args.payloads.now c.requires.texts stored
-          (λ past. let never = full.1 past in cc) (rw size at c.append.ensures.any_moment);
+          (rw size at c.append.ensures.any_moment);
       names = c.append.ensures.attached;
       reported = c.in-Ok.ensures.none (λ fails. cc);
     }
@@ -91,8 +106,9 @@ returns-in-Err-Disk g c =
     let state : c.self.inside.machine.state ≡ z.state = ap (λ (x : Seen). x.setting.state) c.self.view_is in
     let valid = subst IsValid state c.self.invariant.0 in
     let happen = can-happen c.args.self.now.setting.state c.args.settled c.requires.can in
-    let stored = all-stored events z.state valid happen c.requires.stored in
-    let full = rw size at c.append.ensures.full in
+    let stored = all-stored z.state.version events z.state refl valid happen c.requires.stored in
+    let limit = c.store_limit-limit.ensures ∙ ap store_limit (c.version.ensures ∙ ap (λ (t : State). t.version) state) in
+    let full = rw (size, limit) at c.append.ensures.full in
     let failed = c.in-Err-Disk.is ∙ ap (λ f. Err f) c.in-Err-Disk.field-0-is in
     let same = put-seen c.args.self.now c.self.inside.machine.state c.prepare.new.self.state c.self.inside.start c.self.inside.end c.self.inside.generation c.self.inside.end c.self.inside.slot c.self.inside.broken []
     c.self.view_is (ap (λ (m : Kept). m.state) c.in_ok-prepare.ensures.ok) refl in
@@ -104,7 +120,7 @@ returns-in-Err-Disk g c =
       stands = λ _. tt;
       moments =
           put-moments disk.seen disk.image disk.moment disk.image_since g.met.D.Disk.only_now old new z events c.args.payloads.now c.requires.texts stored
-          (λ past. c.append.ensures.unwritten (inl (full.1 past))) (rw size at c.append.ensures.any_moment);
+          (rw size at c.append.ensures.any_moment);
       names = c.append.ensures.attached;
       reported = (c.append.ensures.later, c.append.ensures.cause failed);
     }
@@ -114,7 +130,8 @@ returns-in-Err-Full g c =
     let z = c.args.self.now.setting in
     let events = settled_events c.args.settled in
     let size : c.self.inside.end ≡ z.end = ap (λ (x : Seen). x.setting.end) c.self.view_is in
-    let full = rw size at c.append.ensures.full in
+    let limit = c.store_limit-limit.ensures ∙ ap store_limit (c.version.ensures ∙ ap (λ (x : Seen). x.setting.state.version) c.self.view_is) in
+    let full = rw (size, limit) at c.append.ensures.full in
     let failed = c.in-Err-Full.is ∙ ap (λ f. Err f) c.in-Err-Full.field-0-is in
     let quiet = c.append.ensures.unwritten (inl failed) in
     let same = put-seen c.args.self.now c.self.inside.machine.state c.prepare.new.self.state c.self.inside.start c.self.inside.end c.self.inside.generation c.self.inside.end c.self.inside.slot c.self.inside.broken []
