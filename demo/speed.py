@@ -52,7 +52,7 @@ def opened(words):
 
 
 def appends(folder, turns):
-    """A file's record has a payload of 100 bytes: 11, a name of 5 and a text of 84. The index adds 10,000 of 2."""
+    """A file's record has a payload of 104 bytes: 15, a name of 5 and a text of 84. The index adds 10,000 of 2."""
     count = 10000
     lines = [f"mkdir /{n}" for n in range(100)]
     lines += [f"write /{n % 100}/{10000 + n} " + "apple pie " * 8 + "pear" for n in range(count)]

@@ -417,14 +417,14 @@ class Tables(CatalogueTest):
 class Limits(CatalogueTest):
     def test_too_many_documents(self) -> None:
         table = self.made / "table.csv"
-        for count in (10_000, 10_001):
+        for count in (65_536, 65_537):
             table.write_text("n,t\n" + "x,y\n" * count)
-            if count == 10_000:
+            if count == 65_536:
                 documents, told = self.written(table)
                 self.assertEqual(len(documents), count)
-                self.assertEqual(told, ["10,000 documents, 0 left out"])
+                self.assertEqual(told, ["65,536 documents, 0 left out"])
             else:
-                self.assertIn("more than 10,000 documents; no catalogue was written", self.refused(table))
+                self.assertIn("more than 65,536 documents; no catalogue was written", self.refused(table))
 
     def test_as_many_long_names_take_no_longer(self) -> None:
         """Names that differ behind where a number stands share their numbers."""

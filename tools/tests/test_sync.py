@@ -89,14 +89,14 @@ class WhatComes(SyncTest):
         self.assertEqual(sorted(before), sorted(file for file in self.made.iterdir() if file.is_file()))
 
     def test_only_what_changed_is_written(self) -> None:
-        """A record is 15 bytes and the text for a file that's written over, and 7 for one that's indexed."""
+        """A record is 19 bytes and the text for a file that's written over, and 7 for one that's indexed."""
         for count in range(20):
             self.write(f"f{count}", b"%d\n" % count)
         self.sync()
         before = self.store.stat().st_size
         self.write("f3", b"12345")
         self.sync()
-        self.assertEqual(self.store.stat().st_size, before + 15 + 5 + 7)
+        self.assertEqual(self.store.stat().st_size, before + 19 + 5 + 7)
 
     def test_the_store_is_opened_only_where_something_changed(self) -> None:
         self.write("a")
