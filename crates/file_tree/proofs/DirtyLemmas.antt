@@ -1,14 +1,16 @@
 -- Which files are dirty, and which numbers the set of a tree has.
-use Rattle.std.proofs.Common.{◌≡◌, ℕ, ◌<◌, ◌≤◌, Bool, true, false, cond, List, [], ◌∷◌, refl, ap, sym, ◌∙◌, subst, arith, eq-eqb}
+use Rattle.std.proofs.Common.{◌≡◌, ℕ, ◌<◌, ◌≤◌, Bool, true, false, cond, List, [], ◌∷◌, filter, refl, ap, sym, ◌∙◌, subst, arith, eq-eqb}
 use Rattle.std.specs.Prelude.{◌==◌, ◌&&◌, ◌||◌, not, nat_le, nat_lt, find, Option, Some, None, is_some}
 use Rattle.std.specs.BTreeMap.{is_at}
+use Rattle.std.specs.BTreeMap.Range.{range_contains}
 use Rattle.std.specs.Cmp.{unsigned_ties}
 use Rattle.std.specs.List.{AllByRecursion, list_any}
 use Rattle.std.specs.List.Sorted.{IsStrictlySortedBy}
 use Rattle.std.specs.Option.{option_map, option_map_or}
-use Rattle.std.specs.Ordering.{nat_cmp}
+use Rattle.std.specs.Ordering.{is_lt, nat_cmp}
 use Rattle.std.specs.declared.cmp.Ordering.TheVariants.{Less, Equal, Greater}
-use Rattle.std.proofs.lemmas.Bool.{eqb-true, ltb-true, ne_eqb}
+use Rattle.std.specs.declared.ops.Bound.TheVariants.{Excluded, Unbounded}
+use Rattle.std.proofs.lemmas.Bool.{and_parts, eqb-true, ltb-true, ne_eqb}
 use Rattle.std.proofs.lemmas.Bool.Decides.{nat_tests}
 use Rattle.std.proofs.Math.Bool.{and-false, and-true, or-false}
 use Rattle.hac_model.specs.Query.Formula.{Formula}
@@ -24,7 +26,7 @@ use Rattle.hac_model.proofs.ChangeLemmas.{entry_at-changed, entry_at-gone, entry
 use Rattle.hac_model.proofs.EventLemmas.{due, steps-due}
 use Rattle.hac_model.proofs.TreeLemmas.{entry_at-behind, entry_at-first, entry_at-low, entry_at-next, entry_at-number}
 use Rattle.hac_model.proofs.LayoutLemmas.{apply-layout}
-use Rattle.file_tree.specs.Answers.{is_dirty_at}
+use Rattle.file_tree.specs.Answers.{entries_behind, is_dirty_at}
 use Rattle.file_tree.specs.Nodes.{body_from}
 use Rattle.file_tree.specs.Ready.{is_awaited, ready_for}
 use Rattle.file_tree.specs.declared.nodes.NewBody.{NewBody}
@@ -262,3 +264,71 @@ found-next es next h (k ∷ ks) (above, sorted) has = elim (is_dirty_at es k) as
     behind n dirty clean =
         let other : (n == k) ≡ false = ne_eqb n k (λ same. let never : true ≡ false = sym dirty ∙ ap (λ (m : ℕ). is_dirty_at es m) same ∙ clean in cc) in
         ap (λ (b : Bool). b || list_any (is_at (nat_cmp n)) ks) (sym (sym (unsigned_ties n k) ∙ other)) ∙ has n dirty
+
+-- The same of the files whose numbers are above one.
+
+module _ (test : Entry → Bool) where
+  rises-lower : (low high : ℕ) (es : List Entry) (next : ℕ) → low ≤ high → NumbersRise high es next → NumbersRise low es next
+  rises-lower low high [] next less h = omega (arith, h)
+  rises-lower low high (e ∷ es) next less h = (omega (arith, h.0), h.1)
+
+  some-rise : (above : ℕ) (es : List Entry) (next : ℕ) → NumbersRise above es next → NumbersRise above (filter test es) next
+  some-rise above [] next h = h
+  some-rise above (e ∷ es) next h = elim (test e) as (λ b. NumbersRise above (cond b (e ∷ filter test es) (filter test es)) next) [
+    | true ↦ (h.0, some-rise e.number es next h.1)
+    | false ↦
+        (let first : above < e.number = h.0 in
+        rises-lower above e.number (filter test es) next (omega arith) (some-rise e.number es next h.1))
+  ]
+
+-- an entry is found among them where its number is above that one
+entry-behind : (last : ℕ) (es : List Entry) (n : ℕ) → entry_at (entries_behind last es) n ≡ cond (nat_lt last n) (entry_at es n) None
+entry-behind last [] n = elim (nat_lt last n) as (λ b. None ≡ cond {A = Option Entry} b None None) [ true ↦ refl | false ↦ refl ]
+entry-behind last (e ∷ es) n = by_tests (nat_lt last e.number) (e.number == n) (nat_lt last n) refl refl refl (entry-behind last es n)
+  where
+    by_tests : (passes here wanted : Bool) → nat_lt last e.number ≡ passes → (e.number == n) ≡ here → nat_lt last n ≡ wanted → entry_at (entries_behind last es) n ≡ cond (nat_lt last n) (entry_at es n) None →
+        entry_at (cond passes (e ∷ entries_behind last es) (entries_behind last es)) n ≡ cond wanted (cond here (Some e) (entry_at es n)) None
+    by_tests true true true passes is wants rest = ap (λ (b : Bool). cond b (Some e) (entry_at (entries_behind last es) n)) is
+    by_tests true true false passes is wants rest = absurd (let never : true ≡ false = sym passes ∙ ap (nat_lt last) (eqb-true e.number n is) ∙ wants in cc)
+    by_tests true false wanted passes is wants rest = ap (λ (b : Bool). cond b (Some e) (entry_at (entries_behind last es) n)) is ∙ rest ∙ ap (λ (b : Bool). cond b (entry_at es n) None) wants
+    by_tests false true true passes is wants rest = absurd (let never : true ≡ false = sym wants ∙ ap (nat_lt last) (sym (eqb-true e.number n is)) ∙ passes in cc)
+    by_tests false true false passes is wants rest = rest ∙ ap (λ (b : Bool). cond b (entry_at es n) None) wants
+    by_tests false false wanted passes is wants rest = rest ∙ ap (λ (b : Bool). cond b (entry_at es n) None) wants
+
+pub dirty-behind : (last : ℕ) (es : List Entry) (n : ℕ) → is_dirty_at (entries_behind last es) n ≡ (nat_lt last n && is_dirty_at es n)
+dirty-behind last es n =
+    ap dirty_in (entry-behind last es n)
+    ∙ (elim (nat_lt last n) as (λ b. dirty_in (cond b (entry_at es n) None) ≡ (b && is_dirty_at es n)) [ true ↦ refl | false ↦ refl ])
+
+find-passing : (p q r : ℕ → Bool) → ((k : ℕ) → r k ≡ (q k && p k)) → (ks : List ℕ) → find r ks ≡ find p (filter q ks)
+find-passing p q r both [] = refl
+find-passing p q r both (k ∷ ks) =
+    ap (λ (b : Bool). cond b (Some k) (find r ks)) (both k)
+    ∙ (elim (q k) as (λ b. cond (b && p k) (Some k) (find r ks) ≡ find p (cond b (k ∷ filter q ks) (filter q ks))) [
+      | true ↦ ap (λ (o : Option ℕ). cond (p k) (Some k) o) (find-passing p q r both ks)
+      | false ↦ find-passing p q r both ks
+    ])
+
+above-test : (last k : ℕ) → range_contains nat_cmp (Excluded last) Unbounded k ≡ nat_lt last k
+above-test last k = elim (nat_lt last k) as (λ b. (is_lt (cond b Less (cond (last == k) Equal Greater)) && true) ≡ b) [
+  | true ↦ refl
+  | false ↦ elim (last == k) as (λ b. (is_lt (cond b Equal Greater) && true) ≡ false) [ true ↦ refl | false ↦ refl ]
+]
+
+pub found-behind : (last : ℕ) (es : List Entry) (next : ℕ) → NumbersRise 0 es next → (keys : List ℕ) → IsStrictlySortedBy nat_cmp keys → ((n : ℕ) → is_dirty_at es n ≡ true → list_any (is_at (nat_cmp n)) keys ≡ true) →
+    next_dirty (entries_behind last es) ≡ find (is_dirty_at es) (filter (range_contains nat_cmp (Excluded last) Unbounded) keys)
+found-behind last es next h keys sorted has =
+    found-next (entries_behind last es) next (some-rise (λ (e : Entry). nat_lt last e.number) 0 es next h) keys sorted (λ n dirty. has n (dirty-too n (sym (dirty-behind last es n) ∙ dirty)))
+    ∙ find-passing (is_dirty_at es) (range_contains nat_cmp (Excluded last) Unbounded) (is_dirty_at (entries_behind last es)) (λ k. dirty-behind last es k ∙ ap (λ (b : Bool). b && is_dirty_at es k) (sym (above-test last k))) keys
+  where
+    dirty-too : (n : ℕ) → (nat_lt last n && is_dirty_at es n) ≡ true → is_dirty_at es n ≡ true
+    dirty-too n both = (and_parts (nat_lt last n) (is_dirty_at es n) both).1
+
+-- all entries are behind the root
+pub behind-root : (above : ℕ) (es : List Entry) (next : ℕ) → NumbersRise above es next → entries_behind 0 es ≡ es
+behind-root above [] next h = refl
+behind-root above (e ∷ es) next h =
+    let first : above < e.number = h.0 in
+    let passes : nat_lt 0 e.number ≡ true = grind (arith, nat_tests) in
+    ap (λ (b : Bool). cond b (e ∷ entries_behind 0 es) (entries_behind 0 es)) passes
+    ∙ ap (λ (xs : List Entry). e ∷ xs) (behind-root e.number es next h.1)

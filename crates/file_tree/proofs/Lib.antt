@@ -8,7 +8,9 @@ pub mod ShapeLemmas
 pub mod StateLemmas
 pub mod TargetLemmas
 pub mod NewLemmas
-pub mod NextLemmas
+pub mod RisingLemmas
+pub mod LiveLemmas
+pub mod NumberedLemmas
 pub mod OrderLemmas
 pub mod DirtyLemmas
 pub mod TreeLemmas

@@ -1,5 +1,5 @@
 -- What the calls of a tree answer.
-use Rattle.std.specs.Prelude.{◌≡◌, ⊤, ℕ, Bool, false, if◌then◌else◌, nat_le, List, [], ◌∷◌, Option, Some, None, Result, Err}
+use Rattle.std.specs.Prelude.{◌≡◌, ⊤, ℕ, Bool, false, nat_lt, List, filter, map, Result, Err}
 use Rattle.std.specs.Option.{option_map_or}
 use Rattle.hac_model.specs.Run.Answers.{Gives}
 use Rattle.hac_model.specs.Tree.{body_at, is_dirty}
@@ -37,10 +37,13 @@ entry_kind body.Document = Document
 abbrev pub entry_kind_at : List Entry → ℕ → EntryKind
 entry_kind_at entries number = option_map_or entry_kind (body_at entries number) Dir
 
--- the number of the first of the entries that isn't below the one given
-abbrev pub next_from : List Entry → ℕ → Option ℕ
-next_from [] from = None
-next_from (entry ∷ entries) from = if nat_le from entry.number then Some entry.number else next_from entries from
+-- the numbers of entries, in their order
+abbrev pub numbers_of : List Entry → List ℕ
+numbers_of entries = map (λ entry. entry.number) entries
+
+-- the entries whose numbers are above this one
+abbrev pub entries_behind : ℕ → List Entry → List Entry
+entries_behind last entries = filter (λ entry. nat_lt last entry.number) entries
 
 -- the entry of a number is a dirty file
 abbrev pub is_dirty_at : List Entry → ℕ → Bool

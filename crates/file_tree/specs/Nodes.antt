@@ -1,5 +1,5 @@
 -- The nodes of a tree, read as entries, names and lists of children.
-use Rattle.std.specs.Prelude.{ℕ, zero, suc, Bool, true, is_some, if◌then◌else◌, nat_eq, List, [], ◌++◌, Option, Some, None, option_and_then}
+use Rattle.std.specs.Prelude.{ℕ, zero, suc, Bool, true, is_some, if◌then◌else◌, nat_eq, List, [], ◌++◌, filter, map, Option, Some, None, option_and_then}
 use Rattle.std.specs.Option.{option_map, option_map_or, option_to_list}
 use Rattle.indexmap.specs.IndexMap.{IndexMap, get}
 use Rattle.hac_model.specs.Script.PathWords.{untested_word}
@@ -47,6 +47,10 @@ new_word other = None
 -- a node, where it is an entry
 abbrev pub if_placed : Node → Option Node
 if_placed node = if node.placed then Some node else None
+
+-- the numbers of those of the nodes that are entries
+abbrev pub placed_in : List (ℕ × Node) → List ℕ
+placed_in nodes = map (λ node. node.0) (filter (λ node. node.1.placed) nodes)
 
 -- the node as the entry of a number
 abbrev pub entry_from : ℕ → Node → Entry

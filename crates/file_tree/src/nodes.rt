@@ -1,10 +1,10 @@
 //! The nodes of a tree by number, each changed by itself. Nothing here knows how they fit together.
 ghost use Rattle.std.specs.Prelude.{◌≡◌, ℕ, ◌<◌, ◌≤◌, [], Some, None, nat_eq, if◌then◌else◌};
-ghost use Rattle.std.specs.Prelude.{length, insert, remove, false, IsSome, IsTrue, OnOk};
+ghost use Rattle.std.specs.Prelude.{length, insert, remove, false, IfOk, IsSome, IsTrue, OnOk};
 ghost use Rattle.std.specs.Option.{option_copied, option_map};
-ghost use Rattle.indexmap.specs.IndexMap.{get};
+ghost use Rattle.indexmap.specs.IndexMap.{IsUnique, get};
 ghost use Rattle.file_tree.specs.Nodes.{body_from, body_of, entry_of, has_node, kids_of, name_of};
-ghost use Rattle.file_tree.specs.Nodes.{new_word, placed_at, spare_of};
+ghost use Rattle.file_tree.specs.Nodes.{new_word, placed_at, placed_in, spare_of};
 ghost use Rattle.hac_model.specs.Tree.Events.{asking, edited, indexed, plain_body, reseated};
 ghost use Rattle.hac_model.specs.Tree.Events.{rewritten};
 ghost use Rattle.hac_model.specs.Tree.{is_directory, is_dirty, is_linkable, query_in, shown_text};
@@ -235,6 +235,20 @@ pub(crate) fn entry_at(nodes: &Nodes, number: Number) -> Option<&Node>
 {
     let node = node_at(nodes, number)?;
     if node.placed { Some(node) } else { None }
+}
+
+/// The numbers of the nodes that are entries, in the order of the map.
+pub(crate) fn placed_numbers(alloc: Global, nodes: &Nodes) -> Result<Vec<Number>, Memory>
+    ensures numbers { IfOk result (λ numbers. numbers.items ≡ placed_in nodes.now.entries) }
+    ensures unique { IsUnique nat_eq nodes.now }
+{
+    let mut numbers = Vec::with_capacity(alloc, nodes.len())?;
+    for (number, node) in nodes.iter() {
+        if node.placed {
+            numbers.push(Number::new(*number))?;
+        }
+    }
+    Ok(numbers)
 }
 
 /// The name of a node.

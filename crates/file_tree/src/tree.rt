@@ -10,7 +10,8 @@ ghost use Rattle.hac_model.specs.Tree.{body_at, child, entry_at, is_directory_at
 ghost use Rattle.hac_model.specs.Tree.{is_document_at, is_file_at, is_made_directory, is_mount_at};
 ghost use Rattle.hac_model.specs.Tree.{is_symlink_at, raised, root_alone, target_in, text_in};
 ghost use Rattle.hac_model.specs.Tree.Valid.{IsLayout};
-ghost use Rattle.file_tree.specs.Answers.{entry_kind_at, entry_kind, is_dirty_at, next_from};
+ghost use Rattle.file_tree.specs.Answers.{entries_behind, entry_kind, entry_kind_at, is_dirty_at};
+ghost use Rattle.file_tree.specs.Answers.{numbers_of};
 ghost use Rattle.file_tree.specs.Nodes.{body_of};
 
 use crate::children::Children;
@@ -23,6 +24,7 @@ use indexmap::IndexMap;
 use std::alloc::Global;
 use std::collections::BTreeSet;
 use std::marker::Model;
+use std::ops::Bound;
 
 /// The tree, seen as its state and as what it is ready for.
 #[derive(Drop)]
@@ -195,7 +197,17 @@ impl Tree {
         ensures layout { IsLayout self.now.state }
     {
         self.know_layout();
-        for number in self.to_index.iter() {
+        self.next_dirty_behind(Number::ROOT)
+    }
+
+    /// The dirty file of the least number above this one, if there is any.
+    pub fn next_dirty_behind(&self, last: Number) -> Option<Number>
+        ensures next { result ≡ next_dirty (entries_behind last self.now.state.entries) }
+        ensures dirty { IfSome result (λ file. IsTrue (is_dirty_at self.now.state.entries file)) }
+    {
+        self.know_layout();
+        let behind = (Bound::Excluded(last.get()), Bound::Unbounded);
+        for number in self.to_index.range(behind) {
             let file = Number::new(*number);
             if self.dirty(file) {
                 return Some(file);
@@ -329,17 +341,17 @@ impl Tree {
         children_at(&self.nodes, dir)
     }
 
-    /// The first entry, in order of number, whose number isn't below the one given.
-    pub fn next_entry(&self, from: Number) -> Option<Number>
-        ensures { result ≡ next_from self.now.state.entries from }
+    /// The numbers of the entries, in order. It takes time that goes with how many there are, and
+    /// not with the number that is next.
+    pub fn numbers(&self, alloc: Global) -> Result<Vec<Number>, Memory>
+        ensures numbers { IfOk result (λ numbers.
+            numbers.items ≡ numbers_of self.now.state.entries) }
+        ensures layout { IsLayout self.now.state }
     {
-        for number in from.get()..self.next.get() {
-            let entry = Number::new(number);
-            if nodes::entry_at(&self.nodes, entry).is_some() {
-                return Some(entry);
-            }
-        }
-        None
+        self.know_layout();
+        let mut numbers = nodes::placed_numbers(alloc, &self.nodes)?;
+        numbers.sort_unstable();
+        Ok(numbers)
     }
 }
 
