@@ -1,6 +1,6 @@
 -- What is known of a command that nothing blocks, and what it leads to.
-use Rattle.std.proofs.Common.{◌≡◌, ℕ, true, false, List, [], ◌∷◌, length, subst, refl, ap, sym, ◌∙◌, arith}
-use Rattle.std.specs.Prelude.{if◌then◌else◌, ◌==◌, min, nat_le, Option, None, Some, Result, Ok, Err, IfErr, IfNone, IfOk, IfSome, IsTrue, option_and_then}
+use Rattle.std.proofs.Common.{◌≡◌, ℕ, true, false, List, [], ◌∷◌, subst, refl, ap, sym, ◌∙◌, arith}
+use Rattle.std.specs.Prelude.{if◌then◌else◌, ◌==◌, min, Option, None, Some, Result, Ok, Err, IfErr, IfNone, IfOk, IfSome, IsTrue, option_and_then}
 use Rattle.std.specs.Option.{option_map, option_map_or}
 use Rattle.std.proofs.lemmas.Bool.{and_from}
 use Rattle.hac_model.specs.Laws.{AllHappen}

@@ -113,7 +113,7 @@ fn is_clear(alloc: Global, kept: &KeptState, event: &Event, found: bool) -> Resu
     match event {
         Event::Setq { dir, query, .. } => {
             let way = kept.cycle_of_query(alloc, *dir, query)?;
-            Ok(way.is_none() && kept.keeps_few_after(event))
+            Ok(way.is_none() && kept.keeps_few_after(alloc, event)?)
         }
         Event::Mv { entry, dir, .. } => {
             let way = kept.cycle_of_move(alloc, *entry, *dir)?;
@@ -125,7 +125,7 @@ fn is_clear(alloc: Global, kept: &KeptState, event: &Event, found: bool) -> Resu
         Event::Cd { session, dir } => Ok(kept.has_place_for(session, *dir)),
         Event::Mark(mark) => may_be_marked(alloc, kept, mark, found),
         Event::Smkdir { .. } | Event::Smount { .. } | Event::Ssync { .. } => {
-            Ok(kept.keeps_few_after(event))
+            kept.keeps_few_after(alloc, event)
         }
         _ => Ok(true),
     }

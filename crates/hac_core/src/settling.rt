@@ -73,7 +73,7 @@ fn settled_few(
     ensures limits { Passes result (settling_cause kept.now.state answers change.event) }
 {
     let change = answered(alloc, kept, change, answers)?;
-    match within_limits(kept, &change) {
+    match within_limits(alloc, kept, &change) {
         Ok(()) => Ok(outcome(change)),
         Err(deny) => {
             drop(change);
@@ -83,20 +83,20 @@ fn settled_few(
 }
 
 /// Denies a change that would exceed a limit, by the first such limit.
-fn within_limits(kept: &KeptState, change: &Change) -> Result<(), Deny>
+fn within_limits(alloc: Global, kept: &KeptState, change: &Change) -> Result<(), Deny>
     requires { IsTrue (is_placed kept.now.state change.now.event) }
     ensures { Passes result (limits_cause kept.now.state change.now) }
 {
     within_all(version(kept), change.counts)?;
-    few_answers(kept, &change.event)
+    few_answers(alloc, kept, &change.event)
 }
 
 /// Denies an event after which mounts would keep more answers than they may.
-fn few_answers(kept: &KeptState, event: &Event) -> Result<(), Deny>
+fn few_answers(alloc: Global, kept: &KeptState, event: &Event) -> Result<(), Deny>
     requires { IsTrue (is_placed kept.now.state event.now) }
     ensures { Passes result (keeping_cause kept.now.state event.now) }
 {
-    if kept.keeps_few_after(event) {
+    if kept.keeps_few_after(alloc, event)? {
         return Ok(());
     }
     Err(Deny::Refused(Refusal::Limit(LimitWord::Answers)))

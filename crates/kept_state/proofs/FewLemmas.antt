@@ -118,6 +118,13 @@ module _ (s : State) (h : IsValid s) where
       answers = omega (arith, next-answers, taking.answers, is.answers);
     }
 
+    -- what keeps nothing is passed
+    pub taking-passes : answers_at s number ≡ [] → IsTaking s (number + 1) room
+    taking-passes none = taking-goes room (record {
+      documents = ap (λ (answers : List Answer). room.documents + documents_in answers) none ∙ omega arith;
+      answers = ap (λ (answers : List Answer). room.answers + length answers) none ∙ omega arith;
+    })
+
     pub taking-ends : number ≡ s.next → IsRoom s.entries room
     taking-ends end =
         let none = ap (λ (k : ℕ). rest_from k s.entries) end ∙ rest-none 0 s.next s.entries h.layout.numbers in

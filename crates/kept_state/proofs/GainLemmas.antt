@@ -239,6 +239,12 @@ module _ (kept : Parts) (h : IsLinked kept) (query : Formula ℕ) where
       at true here = ap lists (eqb-true n m here) ∙ none ∙ sym (λ i. with_answers (answers_to (plain-asked m plain i) told) (plain-none m plain i))
       at false other = refl
 
+-- what is no entry keeps nothing
+pub absent-none : (kept : Parts) → IsLinked kept → (n : ℕ) → entry_at kept.tree.state.entries n ≡ None → answers_at (state_of kept) n ≡ []
+absent-none kept h n none =
+    let plain : is_mount_at kept.tree.state.entries n ≡ false = ap (λ (o : Option Entry). option_map_or is_mount (option_map (λ (e : Entry). e.body) o) false) none in
+    mountless (state_of kept) n (same-mount (state_of kept) kept.tree.state (kept-bares kept) n ∙ plain)
+
 pub none-told : (told : List (List ℕ)) → (length told == 0) ≡ true → told ≡ []
 none-told [] none = refl
 none-told (numbers ∷ told) none = let no : length (numbers ∷ told) ≡ 0 = eqb-true (length (numbers ∷ told)) 0 none in absurd (omega (arith, no))
@@ -304,6 +310,13 @@ module _ (kept : Parts) (h : IsLinked kept) (query : Formula ℕ) (told : List (
           where
             below : (n ≡ number → ⊥) → n < number
             below apart = elim (cases_lt n number) [ inl less ↦ less | inr more ↦ absurd (apart (omega (arith, low, more))) ]
+
+    -- what is no entry is told nothing
+    pub gaining-passes : entry_at t'.entries number ≡ None → IsGaining kept query told left (number + 1) lists
+    gaining-passes none =
+        let plain : is_mount_at t'.entries number ≡ false = ap (λ (o : Option Entry). option_map_or is_mount (option_map (λ (e : Entry). e.body) o) false) none in
+        gaining-goes left lists (ap (λ (k : ℕ). drop k left) (ap (λ (ts : List Term). length ts) (sym (plain-asked kept h query number plain))))
+        (nothing-put kept h query left number plain lists (g.none number (omega arith)))
 
   pub gaining-ends : (left : List (List ℕ)) (number : ℕ) (lists : ℕ → List Answer) → IsGaining kept query told left number lists → number ≡ t'.next → (n : ℕ) → lists n ≡ answers_then k' query told t' n
   gaining-ends left number lists g end n = elim (cases_lt n number) [

@@ -1,5 +1,5 @@
 -- What a linked tree says of its state: all but marks is in the tree alone.
-use Rattle.std.proofs.Common.{◌≡◌, ℕ, false, List, refl, ap, true, subst, sym, ◌∙◌}
+use Rattle.std.proofs.Common.{◌≡◌, ℕ, false, List, [], ◌∷◌, map, refl, ap, true, subst, sym, ◌∙◌}
 use Rattle.std.specs.Prelude.{◌&&◌, ◌||◌, not, nat_lt, Option, Some, None, is_some, option_and_then}
 use Rattle.std.specs.Option.{option_map, option_map_or}
 use Rattle.hac_model.specs.Tree.Bare.{bare, bare_body}
@@ -31,6 +31,7 @@ use Rattle.hac_model.proofs.MapLemmas.{test-mapped}
 use Rattle.hac_model.proofs.MountFactLemmas.{terms-bare}
 use Rattle.std.proofs.lemmas.Bool.{and_from, and_parts}
 use Rattle.hac_model.specs.Tree.Events.{is_placed}
+use Rattle.file_tree.specs.Answers.{numbers_of}
 use Rattle.file_tree.specs.Seated.{is_seated}
 use Rattle.kept_state.specs.Parts.{IsLinked, facts_kept, state_of}
 use Rattle.kept_state.specs.declared.parts.Parts.{Parts}
@@ -195,6 +196,14 @@ same-next-bare s t bares e = bare-commutes s e ∙ ap (λ (x : State). bare (app
 -- the tree that is kept has no facts
 pub kept-bares : (kept : Parts) → bare (state_of kept) ≡ bare kept.tree.state
 kept-bares kept = bare-joined (facts_kept kept) kept.sessions kept.tree.state
+
+-- the numbers of entries are those of the bare ones
+pub same-numbers : (s : State) → numbers_of (bare s).entries ≡ numbers_of s.entries
+same-numbers s = same-numbers-of s.entries
+  where
+    same-numbers-of : (es : List Entry) → numbers_of (map (edited bare_body) es) ≡ numbers_of es
+    same-numbers-of [] = refl
+    same-numbers-of (e ∷ es) = ap (λ (ns : List ℕ). e.number ∷ ns) (same-numbers-of es)
 
 -- the tree itself is one
 pub tree-layout : (kept : Parts) → IsLinked kept → IsLayout kept.tree.state

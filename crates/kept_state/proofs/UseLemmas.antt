@@ -3,6 +3,7 @@ use Rattle.std.proofs.Common.{◌≡◌, ℕ, suc, ◌+◌, ◌<◌, ◌≤◌, 
 use Rattle.std.specs.Prelude.{if◌then◌else◌, nat_le, Option, Some, None, option_and_then, slice_get}
 use Rattle.std.specs.List.{AllByRecursion, insert, prefix_len}
 use Rattle.std.specs.Option.{option_map, option_map_or}
+use Rattle.std.proofs.lemmas.List.{append-nil}
 use Rattle.std.proofs.lemmas.Bool.{cases_order, eq-eqb, le-leb, leb-true, ne_eqb}
 use Rattle.hac_model.specs.Query.Queries.{terms_of}
 use Rattle.hac_model.specs.Query.Terms.{is_term_before}
@@ -167,6 +168,12 @@ taken s i old new numbers so_far is =
     ∙ append_assoc old (option_map_or terms_of (query_at s i) []) (terms_in_use (rest_from (i + 1) s.entries))
     ∙ ap (λ (ts : List Term). old ++ ts) (sym (rest-next i 0 s.next s.entries numbers))
     ∙ so_far
+
+-- what is no entry has none
+pub untaken : (s : State) (i : ℕ) (old : List Term) → NumbersRise 0 s.entries s.next → entry_at s.entries i ≡ None → old ++ terms_in_use (rest_from i s.entries) ≡ terms_in_use s.entries → old ++ terms_in_use (rest_from (i + 1) s.entries) ≡ terms_in_use s.entries
+untaken s i old numbers none so_far =
+    taken s i old old numbers so_far
+    (sym (append-nil old) ∙ ap (λ (o : Option Entry). old ++ option_map_or terms_of (option_and_then query_in (option_map (λ (e : Entry). e.body) o)) []) (sym none))
 
 -- What was told of the terms.
 

@@ -1,5 +1,5 @@
 //! What mounts keep once they were told for a query. It changes nothing.
-ghost use Rattle.std.specs.Prelude.{◌≡◌, ◌==◌, ◌≤◌, ◌∷◌, [], ℕ, IfOk, IsTrue, None, OnOk};
+ghost use Rattle.std.specs.Prelude.{◌≡◌, ◌==◌, ◌≤◌, [], ℕ, IfOk, IsTrue, None, OnOk};
 ghost use Rattle.std.specs.Prelude.{if◌then◌else◌, length, not};
 ghost use Rattle.std.specs.List.{prefix_len};
 ghost use Rattle.hac_model.specs.Query.Terms.{is_term_before};
@@ -92,8 +92,8 @@ fn lists_then(
 {
     let mut lists = IndexMap::new(alloc);
     let mut left = told;
-    'numbers: for number in 0..kept.tree.next_number().get() {
-        let asked = put_gain(alloc, &mut lists, kept, query, left, Number::new(number))?;
+    'entries: for number in kept.tree.numbers(alloc)? {
+        let asked = put_gain(alloc, &mut lists, kept, query, left, number)?;
         left = left.split_at(asked).1;
     }
     Ok(lists)

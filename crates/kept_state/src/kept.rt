@@ -14,6 +14,7 @@ ghost use Rattle.hac_model.specs.Tree.Sessions.{are_few, is_busy, is_stored, lea
 ghost use Rattle.hac_model.specs.Tree.Sessions.{sessions_with, stands_in, visitors};
 ghost use Rattle.hac_model.specs.Tree.Valid.{IsValid};
 ghost use Rattle.hac_model.specs.Tree.Events.{is_placed};
+ghost use Rattle.file_tree.specs.Answers.{numbers_of};
 ghost use Rattle.kept_state.specs.Gains.{AreGainsOf};
 ghost use Rattle.hac_model.specs.declared.states.State.{State};
 ghost use Rattle.kept_state.specs.AnswersKept.{list_at};
@@ -100,6 +101,14 @@ impl KeptState {
         ensures valid { IsValid self.now.state }
     {
         &self.parts.tree
+    }
+
+    /// The numbers of the entries, in order. It takes time that goes with how many there are, and
+    /// not with the number that is next.
+    pub fn numbers(&self, alloc: Global) -> Result<Vec<Number>, Memory>
+        ensures { IfOk result (λ numbers. numbers.items ≡ numbers_of self.now.state.entries) }
+    {
+        self.tree().numbers(alloc)
     }
 
     /// The path of an entry.
@@ -308,11 +317,12 @@ impl KeptState {
 
     /// Whether mounts would keep no more answers than they may after an event. What it refers to is
     /// in the state. Where something was told, this goes over all answers that are kept.
-    pub fn keeps_few_after(&self, event: &Event) -> bool
+    pub fn keeps_few_after(&self, alloc: Global, event: &Event) -> Result<bool, Memory>
         requires { IsTrue (is_placed self.now.state event.now) }
-        ensures { result ≡ are_answers_few (apply self.now.state event.now).entries }
+        ensures { IfOk result (λ few. few
+            ≡ are_answers_few (apply self.now.state event.now).entries) }
     {
-        room::keeps_few_after(&self.parts, event)
+        room::keeps_few_after(alloc, &self.parts, event)
     }
 
     /// Takes the memory that an event wants that is stored, so that `commit` can apply it. How much

@@ -1,5 +1,5 @@
 //! How much more mounts may keep. It changes nothing.
-ghost use Rattle.std.specs.Prelude.{◌≡◌, ◌≤◌, ◌<◌, ◌+◌, ◌^◌, IsTrue, length, nat_le};
+ghost use Rattle.std.specs.Prelude.{◌≡◌, ◌≤◌, ◌<◌, ◌+◌, ◌^◌, IfOk, IsTrue, length, nat_le};
 ghost use Rattle.hac_model.specs.Tree.Events.{apply, is_placed};
 ghost use Rattle.hac_model.specs.Tree.Limits.{are_answers_few};
 ghost use Rattle.hac_model.specs.declared.limits.TheConstants as limits;
@@ -8,7 +8,8 @@ ghost use Rattle.kept_state.specs.Room.{AreKept, IsLess, IsRoom, are_few_then, d
 ghost use Rattle.kept_state.specs.Room.{fits, numbers_in};
 
 use crate::parts::Parts;
-use hac_model::{ANSWERS_LIMIT, Answer, Event, Number, PAIRS_LIMIT, Seq};
+use hac_model::{ANSWERS_LIMIT, Answer, Event, Memory, Number, PAIRS_LIMIT, Seq};
+use std::alloc::Global;
 
 /// How many more documents kept answers may name, and how many more answers may be kept.
 #[derive(Clone, Copy)]
@@ -21,47 +22,55 @@ pub struct Room {
 
 /// Whether mounts keep no more answers after an event than they may. What is kept is looked at only
 /// where something was told.
-pub fn keeps_few_after(kept: &Parts, event: &Event) -> bool
+pub fn keeps_few_after(alloc: Global, kept: &Parts, event: &Event) -> Result<bool, Memory>
     requires linked { IsLinked kept.now }
     requires placed { IsTrue (is_placed (state_of kept.now) event.now) }
-    ensures { result ≡ are_answers_few (apply (state_of kept.now) event.now).entries }
+    ensures { IfOk result (λ few. few
+        ≡ are_answers_few (apply (state_of kept.now) event.now).entries) }
 {
     match event {
-        Event::Smkdir { told, .. } => has_room(kept, &[], told.as_slice()),
-        Event::Setq { told, .. } => has_room(kept, &[], told.as_slice()),
-        Event::Smount { told, .. } => has_room(kept, &[], told.as_slice()),
+        Event::Smkdir { told, .. } => has_room(alloc, kept, &[], told.as_slice()),
+        Event::Setq { told, .. } => has_room(alloc, kept, &[], told.as_slice()),
+        Event::Smount { told, .. } => has_room(alloc, kept, &[], told.as_slice()),
         Event::Ssync { mount, told, .. } => {
-            has_room(kept, kept.answers.kept_by(*mount), told.as_slice())
+            has_room(alloc, kept, kept.answers.kept_by(*mount), told.as_slice())
         }
-        _ => true,
+        _ => Ok(true),
     }
 }
 
 /// Whether mounts keep no more than they may once these answers are gone and what was told is kept.
-fn has_room(kept: &Parts, gone: &[Answer], told: &[Seq<Number>]) -> bool
+fn has_room(
+    alloc: Global,
+    kept: &Parts,
+    gone: &[Answer],
+    told: &[Seq<Number>],
+) -> Result<bool, Memory>
     requires linked { IsLinked kept.now }
     requires kept { AreKept (state_of kept.now).entries gone.now }
-    ensures { result ≡ are_few_then (state_of kept.now).entries gone.now told.now }
+    ensures { IfOk result (λ has. has
+        ≡ are_few_then (state_of kept.now).entries gone.now told.now) }
 {
     if told.is_empty() {
-        return true;
+        return Ok(true);
     }
-    room_in(kept).with(gone).fits(told)
+    let room = room_in(alloc, kept)?;
+    Ok(room.with(gone).fits(told))
 }
 
 /// How much more mounts may keep.
-fn room_in(kept: &Parts) -> Room
+fn room_in(alloc: Global, kept: &Parts) -> Result<Room, Memory>
     requires { IsLinked kept.now }
-    ensures { IsRoom (state_of kept.now).entries result }
+    ensures { IfOk result (IsRoom (state_of kept.now).entries) }
 {
     let mut room = Room {
         documents: ANSWERS_LIMIT,
         answers: PAIRS_LIMIT,
     };
-    'numbers: for number in 0..kept.tree.next_number().get() {
-        room = room.without(kept.answers.kept_by(Number::new(number)));
+    'entries: for number in kept.tree.numbers(alloc)? {
+        room = room.without(kept.answers.kept_by(number));
     }
-    room
+    Ok(room)
 }
 
 impl Room {

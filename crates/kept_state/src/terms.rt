@@ -1,10 +1,12 @@
 //! What a space is asked as it is mounted, as its mount is synced, and for a query: terms in order.
 //! It changes nothing.
-ghost use Rattle.std.specs.Prelude.{◌≡◌, ◌++◌, ◌≤◌, None, IfOk, OnOk, length};
+ghost use Rattle.std.specs.Prelude.{◌≡◌, ◌++◌, ◌≤◌, [], None, IfOk, OnOk, length};
 ghost use Rattle.std.specs.List.{prefix_len};
+ghost use Rattle.std.specs.Option.{option_map_or};
 ghost use Rattle.hac_model.specs.Query.Queries.{terms_of};
 ghost use Rattle.hac_model.specs.Query.Terms.{is_term_before};
 ghost use Rattle.hac_model.specs.Tree.Asking.{unanswered};
+ghost use Rattle.hac_model.specs.Tree.Links.{query_at};
 ghost use Rattle.hac_model.specs.Tree.Mounting.{answers_to};
 ghost use Rattle.hac_model.specs.Tree.Mounts.{in_order, put_term, terms_in_use, terms_to_ask};
 ghost use Rattle.hac_model.specs.Tree.Valid.{TermsRise};
@@ -54,12 +56,21 @@ fn terms_in_use(alloc: Global, tree: &Tree) -> Result<Vec<Term>, Memory>
     ensures { IfOk result (λ terms. terms.items ≡ terms_in_use tree.now.state.entries) }
 {
     let mut terms = Vec::new(alloc);
-    'numbers: for number in 0..tree.next_number().get() {
-        if let Some(query) = tree.query(Number::new(number)) {
-            push_terms(&mut terms, query)?;
-        }
+    'entries: for number in tree.numbers(alloc)? {
+        push_query_terms(&mut terms, tree, number)?;
     }
     Ok(terms)
+}
+
+/// Adds the terms of the query of a directory, where it has one.
+fn push_query_terms(terms: &mut Vec<Term>, tree: &Tree, dir: Number) -> Result<(), Memory>
+    ensures { OnOk result (terms.new.items
+        ≡ terms.old.items ++ option_map_or terms_of (query_at tree.now.state dir) []) }
+{
+    match tree.query(dir) {
+        Some(query) => push_terms(terms, query),
+        None => Ok(()),
+    }
 }
 
 /// Adds the terms of a query, in its order. It goes down as deep as the query does.

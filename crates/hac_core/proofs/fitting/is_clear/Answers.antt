@@ -3,8 +3,8 @@ use Rattle.std.specs.Prelude.{is_none, not}
 use Rattle.hac_core.proofs.FittingLemmas.{clear-asking}
 use Rattle.hac_core.proofs.fitting.is_clear.Goals as goal
 
-pub returns-then-is_none : goal.returns-then-is_none
-returns-then-is_none c =
-    c.keeps_few_after.ensures
+pub returns-in_ok-keeps_few_after-in-Setq : goal.returns-in_ok-keeps_few_after-in-Setq
+returns-in_ok-keeps_few_after-in-Setq c =
+    c.in_ok-keeps_few_after-in-Setq.ensures
     ∙ clear-asking c.args.kept.now.state c.args.event.now c.in-Setq.dir c.in-Setq.query c.in-Setq.told c.in-Setq.is
     (ap (λ o. is_none o) (sym c.in_ok-way-in-Setq.ensures) ∙ ap not (c.is_none.ensures ∙ ap not c.if-is_none.true))

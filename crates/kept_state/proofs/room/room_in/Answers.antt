@@ -1,38 +1,69 @@
-use Rattle.std.proofs.Common.{◌≡◌, ◌≤◌, ◌∙◌, List, ap, arith, length, refl, subst, sym}
+use Rattle.std.proofs.Common.{◌≡◌, ◌≤◌, ◌∙◌, List, arith, length, refl, subst, sym}
+use Rattle.std.proofs.lemmas.List.{nil_from_length}
 use Rattle.hac_model.specs.Tree.Links.{answers_at}
+use Rattle.hac_model.specs.declared.limits.TheConstants.{ANSWERS_LIMIT, PAIRS_LIMIT}
 use Rattle.hac_model.specs.declared.states.Answer.{Answer}
-use Rattle.kept_state.specs.Answers.{answers_kept}
+use Rattle.file_tree.proofs.LiveLemmas.{through-begins, through-ends, through-goes, through-here}
 use Rattle.kept_state.specs.Parts.{state_of}
 use Rattle.kept_state.specs.Room.{IsLess, documents_in}
+use Rattle.kept_state.specs.declared.room.Room.{Room}
 use Rattle.kept_state.proofs.AnswerLemmas.{kept-answers}
-use Rattle.kept_state.proofs.FewLemmas.{taking-answers, taking-begins, taking-documents, taking-ends, taking-goes}
+use Rattle.kept_state.proofs.FewLemmas.{IsTaking, taking-answers, taking-begins, taking-documents, taking-ends, taking-goes, taking-passes}
+use Rattle.kept_state.proofs.GainLemmas.{absent-none}
 use Rattle.kept_state.proofs.room.room_in.Goals as goal
 
-pub numbers-init : goal.numbers-init
-numbers-init c = taking-begins (state_of c.args.kept.now) c.requires.valid _ refl refl
+pub entries-init : goal.entries-init
+entries-init c =
+    let kept = c.args.kept.now in
+    let s = state_of kept in
+    let room : Room = record { documents = ANSWERS_LIMIT; answers = PAIRS_LIMIT } in
+    through-begins (λ number. IsTaking s number room) kept.tree.state.entries kept.tree.state.next c.numbers.ensures.layout.numbers
+    (λ k none so_far. taking-passes s c.requires.valid k room so_far (absent-none kept c.requires k none))
+    c.into_iter-number-iterator.result.rest.items (c.into_iter-number-iterator.ensures.into_iter_gives.0 ∙ c.in_ok-number-items.ensures.numbers)
+    (taking-begins s c.requires.valid room refl refl)
 
 pub without-room-requires-clause-documents : goal.without-room-requires-clause-documents
 without-room-requires-clause-documents c =
     let kept = c.args.kept.now in
     let s = state_of kept in
-    let is : c.kept_by.result.now ≡ answers_at s c.numbers.number = c.kept_by.ensures ∙ ap (answers_kept kept.answers) c.new.ensures ∙ kept-answers kept c.requires c.numbers.number in
-    subst (λ (answers : List Answer). documents_in answers ≤ c.numbers.room.documents) (sym is) (taking-documents s c.requires.valid c.numbers.number c.numbers.room c.numbers.invariant)
+    let room : Room = c.entries.room in
+    let n = c.in-Some.number in
+    let here = through-here (λ number. IsTaking s number room) kept.tree.state.entries kept.tree.state.next c.entries.number-iterator.rest.items n c.next.new.self.rest.items c.in-Some.ensures.steps.0 c.entries.invariant in
+    let is : c.kept_by.result.now ≡ answers_at s n = c.kept_by.ensures ∙ kept-answers kept c.requires n in
+    subst (λ (answers : List Answer). documents_in answers ≤ room.documents) (sym is) (taking-documents s c.requires.valid n room here)
 
 pub without-room-requires-clause-answers : goal.without-room-requires-clause-answers
 without-room-requires-clause-answers c =
     let kept = c.args.kept.now in
     let s = state_of kept in
-    let is : c.kept_by.result.now ≡ answers_at s c.numbers.number = c.kept_by.ensures ∙ ap (answers_kept kept.answers) c.new.ensures ∙ kept-answers kept c.requires c.numbers.number in
-    subst (λ (answers : List Answer). length answers ≤ c.numbers.room.answers) (sym is) (taking-answers s c.requires.valid c.numbers.number c.numbers.room c.numbers.invariant)
+    let room : Room = c.entries.room in
+    let n = c.in-Some.number in
+    let here = through-here (λ number. IsTaking s number room) kept.tree.state.entries kept.tree.state.next c.entries.number-iterator.rest.items n c.next.new.self.rest.items c.in-Some.ensures.steps.0 c.entries.invariant in
+    let is : c.kept_by.result.now ≡ answers_at s n = c.kept_by.ensures ∙ kept-answers kept c.requires n in
+    subst (λ (answers : List Answer). length answers ≤ room.answers) (sym is) (taking-answers s c.requires.valid n room here)
 
-pub numbers-preserved : goal.numbers-preserved
-numbers-preserved c =
+pub entries-preserved : goal.entries-preserved
+entries-preserved c =
     let kept = c.args.kept.now in
     let s = state_of kept in
-    let is : c.kept_by.result.now ≡ answers_at s c.numbers.number = c.kept_by.ensures ∙ ap (answers_kept kept.answers) c.new.ensures ∙ kept-answers kept c.requires c.numbers.number in
-    taking-goes s c.requires.valid c.numbers.number c.numbers.room c.numbers.invariant c.without-room.result (subst (λ (answers : List Answer). IsLess answers c.numbers.room c.without-room.result) is c.without-room.ensures)
+    let room : Room = c.entries.room in
+    let less : Room = c.without-room.result in
+    let n = c.in-Some.number in
+    let left = c.entries.number-iterator.rest.items in
+    let rest = c.next.new.self.rest.items in
+    let here = through-here (λ number. IsTaking s number room) kept.tree.state.entries kept.tree.state.next left n rest c.in-Some.ensures.steps.0 c.entries.invariant in
+    let is : c.kept_by.result.now ≡ answers_at s n = c.kept_by.ensures ∙ kept-answers kept c.requires n in
+    through-goes (λ number. IsTaking s number less) kept.tree.state.entries kept.tree.state.next c.numbers.ensures.layout.numbers
+    (λ k none so_far. taking-passes s c.requires.valid k less so_far (absent-none kept c.requires k none))
+    (λ number. IsTaking s number room) left n rest c.in-Some.ensures.steps.0 c.entries.invariant
+    (taking-goes s c.requires.valid n room here less (subst (λ (answers : List Answer). IsLess answers room less) is c.without-room.ensures))
 
 pub returns : goal.returns
 returns c =
-    taking-ends (state_of c.args.kept.now) c.requires.valid c.numbers.number c.numbers.room c.numbers.invariant
-    (omega (arith, c.numbers-test.false, c.numbers.auto.number-end, c.next_number.ensures.number, c.get-number-end.ensures))
+    let kept = c.args.kept.now in
+    let s = state_of kept in
+    let room : Room = c.entries.room in
+    let left = c.entries.number-iterator.rest.items in
+    taking-ends s c.requires.valid s.next room
+    (through-ends (λ number. IsTaking s number room) kept.tree.state.entries kept.tree.state.next left (nil_from_length left (omega (arith, c.in-None.ensures.steps.0, c.entries.number-iterator.rest.ok.0))) c.entries.invariant)
+    refl

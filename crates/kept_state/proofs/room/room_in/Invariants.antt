@@ -1,6 +1,7 @@
+use Rattle.file_tree.proofs.LiveLemmas.{IsThrough}
 use Rattle.kept_state.specs.Parts.{state_of}
 use Rattle.kept_state.proofs.FewLemmas.{IsTaking}
 use Rattle.kept_state.proofs.room.room_in.Given as goal
 
-abbrev pub invariant-numbers : goal.invariant-numbers
-invariant-numbers l = IsTaking (state_of l.kept) l.number l.room
+abbrev pub invariant-entries : goal.invariant-entries
+invariant-entries l = IsThrough (λ number. IsTaking (state_of l.kept) number l.room) l.kept.tree.state.entries l.kept.tree.state.next l.number-iterator.rest.items
