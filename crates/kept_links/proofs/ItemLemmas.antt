@@ -4,7 +4,6 @@ use Rattle.std.specs.Prelude.{◌&&◌, not, filter, Option, Some, None, IsTrue}
 use Rattle.std.specs.List.{range_with_len}
 use Rattle.std.specs.Option.{option_map, option_map_or}
 use Rattle.std.proofs.lemmas.Bool.{and_from, and_parts, cases_lt}
-use Rattle.std.proofs.lemmas.List.Elements.{filter-append}
 use Rattle.hac_model.specs.Tree.Depends.{Among}
 use Rattle.hac_model.specs.Tree.{entry_at, is_linkable}
 use Rattle.hac_model.specs.Tree.Events.{accepted, apply, changed_at, edited, indexed, next_dirty}
@@ -23,17 +22,10 @@ use Rattle.kept_links.specs.Items.{is_other, is_passed_over, others}
 
 -- Numbers that follow one another.
 
-range-more : (a n : ℕ) → range_with_len a (suc n) ≡ range_with_len a n ++ (a + n) ∷ []
+-- with one more
+pub range-more : (a n : ℕ) → range_with_len a (suc n) ≡ range_with_len a n ++ (a + n) ∷ []
 range-more a zero = let same : a ≡ a + zero = omega arith in ap (λ (k : ℕ). k ∷ []) same
 range-more a (suc n) = let same : a + 1 + n ≡ a + suc n = omega arith in ap (λ (rest : List ℕ). a ∷ rest) (range-more (a + 1) n ∙ ap (λ (k : ℕ). range_with_len (a + 1) n ++ k ∷ []) same)
-
--- the numbers from 0 on, with one more
-range-next : (n : ℕ) → range_with_len 0 (n + 1) ≡ range_with_len 0 n ++ n ∷ []
-range-next n = let one : n + 1 ≡ suc n = omega arith in let last : 0 + n ≡ n = omega arith in ap (range_with_len 0) one ∙ range-more 0 n ∙ ap (λ (k : ℕ). range_with_len 0 n ++ k ∷ []) last
-
--- those that pass, with one number more
-pub filter_next : (p : ℕ → Bool) (n : ℕ) → filter p (range_with_len 0 (n + 1)) ≡ filter p (range_with_len 0 n) ++ cond (p n) (n ∷ []) []
-filter_next p n = ap (filter p) (range-next n) ∙ filter-append p (range_with_len 0 n) (n ∷ [])
 
 in-range : (a n k : ℕ) → Among (range_with_len a n) k → a ≤ k
 in-range a zero k among = absurd among
@@ -169,12 +161,16 @@ item-below s n h is = elim (cases_lt n s.next) as (λ _. n < s.next) [
 ]
 
 -- no event gives numbers back
-next-grows : (s : State) (event : Event) → s.next ≤ (apply s event).next
+pub next-grows : (s : State) (event : Event) → s.next ≤ (apply s event).next
 next-grows s Step = elim (next_dirty s.entries) as (λ o. s.next ≤ (option_map_or (λ file. changed_at s file (edited indexed)) o s).next) [
   | None ↦ omega arith
   | Some file ↦ omega arith
 ]
 next-grows s other = omega arith
+
+-- what the event leaves alone is an item after it where it was one
+pub owed-item : (s : State) (event : Event) (item : ℕ) → Owes s event item → is_item s item ≡ is_item (apply s event) item
+owed-item s event item owed = items-seen (entry_at s.entries item) ∙ ap is_seen owed.sight ∙ sym (items-seen (entry_at (apply s event).entries item))
 
 -- it is no item, before or after the event, if the event leaves alone what it doesn't touch, and doesn't pass it over
 pub in-neither : (s : State) (event : Event) (item : ℕ) → IsLayout s → IsTrue (accepted s event) → (touches s event item ≡ false → Owes s event item) → is_passed_over s event item ≡ false →
@@ -196,12 +192,9 @@ in-neither s event item h ok owes seen no-touched no-other = (before (is_item s 
         absurd (no-other (untouched-others s event item less is (untouched less) seen))
     none-after false is = is
 
-    stays : Owes s event item → is_item s item ≡ is_item (apply s event) item
-    stays owed = items-seen (entry_at s.entries item) ∙ ap is_seen owed.sight ∙ sym (items-seen (entry_at (apply s event).entries item))
-
     after : is_item (apply s event) item ≡ false
     after = none-after (is_item (apply s event) item) refl
 
     before : (b : Bool) → is_item s item ≡ b → is_item s item ≡ false
-    before true is = stays (owes (untouched (omega (arith, item-below s item h is, next-grows s event)))) ∙ after
+    before true is = owed-item s event item (owes (untouched (omega (arith, item-below s item h is, next-grows s event)))) ∙ after
     before false is = is

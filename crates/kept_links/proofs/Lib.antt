@@ -6,3 +6,4 @@ pub mod NewDirLemmas
 pub mod MarkLemmas
 pub mod TaskLemmas
 pub mod EdgeLemmas
+pub mod AroundLemmas

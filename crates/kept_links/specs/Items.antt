@@ -1,5 +1,5 @@
 -- The items that are judged again after an event.
-use Rattle.std.specs.Prelude.{ℕ, Bool, false, ◌&&◌, not, if◌then◌else◌, List, filter}
+use Rattle.std.specs.Prelude.{ℕ, ◌-◌, Bool, false, ◌&&◌, not, if◌then◌else◌, List, ◌++◌, filter}
 use Rattle.std.specs.List.{range_with_len}
 use Rattle.std.specs.Option.{option_map_or}
 use Rattle.hac_model.specs.Tree.{is_directory_at}
@@ -9,6 +9,7 @@ use Rattle.hac_model.specs.Tree.Touched.{touches}
 use Rattle.hac_model.specs.declared.events.Event.{Event}
 use Rattle.hac_model.specs.declared.events.Event.TheVariants.{NewFile, Smkdir, Mark, Mv, Rm, Smount, Ssync, Sumount, Step}
 use Rattle.hac_model.specs.declared.states.State.{State}
+use Rattle.file_tree.specs.Answers.{numbers_of}
 use Rattle.kept_links.specs.declared.items.Reach.{Reach}
 use Rattle.kept_links.specs.declared.items.Reach.TheVariants.{Nothing, One, Any}
 
@@ -24,6 +25,10 @@ is_other s event item = is_item (apply s event) item && not (touches s event ite
 -- the items that the event doesn't touch and of which it may change links, in order of number
 abbrev pub others : State → Event → List ℕ
 others s event = filter (is_other s event) (range_with_len 0 (apply s event).next)
+
+-- the numbers of the entries of a state, and those that were given since, in order
+abbrev pub numbers_around : State → State → List ℕ
+numbers_around s after = numbers_of s.entries ++ range_with_len s.next (after.next - s.next)
 
 -- what the event may touch: no item, none but one, or any
 abbrev pub reach_of : State → Event → Reach

@@ -8,7 +8,8 @@ ghost use Rattle.hac_model.specs.Tree.Events.{accepted, apply, is_inside, next_d
 ghost use Rattle.hac_model.specs.Tree.Links.{is_item, is_semantic};
 ghost use Rattle.hac_model.specs.Tree.Mounting.{is_document_of};
 ghost use Rattle.hac_model.specs.Tree.Touched.{begins, is_the, touched, touches};
-ghost use Rattle.kept_links.specs.Items.{is_other, is_passed_over, others, reach_of};
+ghost use Rattle.kept_links.specs.Items.{is_other, is_passed_over, numbers_around, others};
+ghost use Rattle.kept_links.specs.Items.{reach_of};
 
 use crate::lookups::{is_directory, is_inside, is_semantic};
 use crate::outlook::Outlook;
@@ -107,8 +108,7 @@ fn touched_of_one(
     Ok(items)
 }
 
-/// The same of any event.
-#[tactic(auto, using(crate::proofs::ItemLemmas::filter_next))]
+/// The same of an event that may touch any item.
 fn touched_of_all(
     alloc: Global,
     kept: &KeptState,
@@ -117,13 +117,33 @@ fn touched_of_all(
 ) -> Result<Vec<Number>, Memory>
     requires accepted { IsTrue (accepted kept.now.state event.now) }
     requires after { outlook.now ≡ apply kept.now.state event.now }
+    requires reach { reach_of kept.now.state event.now ≡ Reach.Any }
     ensures { IfOk result (λ items. items.items ≡ touched kept.now.state event.now) }
 {
+    kept.know_valid();
     let mut items = Vec::new(alloc);
-    for number in 0..outlook.next_number().get() {
-        push_touched(&mut items, kept, outlook, event, Number::new(number))?;
+    for number in numbers_around(alloc, kept, outlook, event)? {
+        push_touched(&mut items, kept, outlook, event, number)?;
     }
     Ok(items)
+}
+
+/// The numbers of the entries, and those that the event gives, in order.
+fn numbers_around(
+    alloc: Global,
+    kept: &KeptState,
+    outlook: &Outlook<'_>,
+    event: &Event,
+) -> Result<Vec<Number>, Memory>
+    requires { outlook.now ≡ apply kept.now.state event.now }
+    ensures { IfOk result (λ numbers. numbers.items
+        ≡ numbers_around kept.now.state (apply kept.now.state event.now)) }
+{
+    let mut numbers = kept.numbers(alloc)?;
+    for number in next_number(kept).get()..outlook.next_number().get() {
+        numbers.push(Number::new(number))?;
+    }
+    Ok(numbers)
 }
 
 /// Adds an item to others, if the event touches it.
@@ -146,7 +166,6 @@ fn push_touched(
 }
 
 /// The items that the event neither touches nor passes over, in order of number.
-#[tactic(auto, using(crate::proofs::ItemLemmas::filter_next))]
 pub(crate) fn other_items(
     alloc: Global,
     kept: &KeptState,
@@ -157,9 +176,10 @@ pub(crate) fn other_items(
     requires after { outlook.now ≡ apply kept.now.state event.now }
     ensures { IfOk result (λ items. items.items ≡ others kept.now.state event.now) }
 {
+    kept.know_valid();
     let mut items = Vec::new(alloc);
-    for number in 0..outlook.next_number().get() {
-        push_other(&mut items, kept, outlook, event, Number::new(number))?;
+    for number in numbers_around(alloc, kept, outlook, event)? {
+        push_other(&mut items, kept, outlook, event, number)?;
     }
     Ok(items)
 }

@@ -1,6 +1,6 @@
 -- The links of a state as they are found from nothing, item by item.
 use Rattle.std.proofs.Common.{◌≡◌, ℕ, ◌+◌, ◌≤◌, Bool, true, false, cond, List, [], ap, eq-eqb, refl, sym, subst, ◌∙◌, arith}
-use Rattle.std.specs.Prelude.{◌==◌, nat_lt, Option, IfOk, Result, Ok, Err, Vec}
+use Rattle.std.specs.Prelude.{◌==◌, nat_lt, Option, None, IfOk, Result, Ok, Err, Vec}
 use Rattle.std.specs.List.{list_all}
 use Rattle.std.specs.Option.{option_map, option_map_or}
 use Rattle.std.specs.declared.alloc.Global.{Global}
@@ -8,7 +8,7 @@ use Rattle.std.proofs.lemmas.Bool.{eqb-true}
 use Rattle.std.proofs.lemmas.Bool.Decides.{nat_tests}
 use Rattle.hac_model.specs.Tree.Links.{is_item, is_judged}
 use Rattle.hac_model.specs.Tree.Valid.{IsValid}
-use Rattle.hac_model.specs.Tree.{is_linkable}
+use Rattle.hac_model.specs.Tree.{entry_at, is_linkable}
 use Rattle.hac_model.specs.declared.memory.Memory.{Memory}
 use Rattle.hac_model.specs.declared.states.Entry.{Entry}
 use Rattle.hac_model.specs.declared.states.State.{State}
@@ -106,13 +106,20 @@ pub below-none-more : (s : State) (known : Known) (number : ℕ) → IsValid s �
 below-none-more s known number valid out h =
     below-more s number known known known [] h (λ dir. refl) (news-of-none s number [] valid refl out) (λ item dir. refl)
 
+-- a number of no entry is that of no item
+none-item : (s : State) (number : ℕ) → entry_at s.entries number ≡ None → is_item s number ≡ false
+none-item s number none = ap (λ (o : Option Entry). option_map_or is_linkable (option_map (λ (e : Entry). e.body) o) false) none
+
+-- so it has none either
+pub none-passed : (s : State) (known : Known) (number : ℕ) → IsValid s → entry_at s.entries number ≡ None → AreLinksBelow s known number → AreLinksBelow s known (number + 1)
+none-passed s known number valid none h = below-none-more s known number valid (none-item s number none) h
+
 -- those of all items are the links of the state
-pub below-all : (s : State) (known : Known) (number : ℕ) → IsValid s → LinkListsRise known → s.next ≤ number → AreLinksBelow s known number → AreLinksOf s known
-below-all s known number valid rise high h = links-told s known valid rise (λ item dir. h item dir ∙ all item dir (nat_lt item number) refl)
+pub below-all : (s : State) (known : Known) → IsValid s → LinkListsRise known → AreLinksBelow s known s.next → AreLinksOf s known
+below-all s known valid rise h = links-told s known valid rise (λ item dir. h item dir ∙ all item dir (nat_lt item s.next) refl)
   where
-    all : (item dir : ℕ) (b : Bool) → nat_lt item number ≡ b → cond b (verdict_of s item dir) no_verdict ≡ verdict_of s item dir
+    all : (item dir : ℕ) (b : Bool) → nat_lt item s.next ≡ b → cond b (verdict_of s item dir) no_verdict ≡ verdict_of s item dir
     all item dir true less = refl
     all item dir false more =
         let above : s.next ≤ item = grind (arith, nat_tests) in
-        let none : is_item s item ≡ false = ap (λ (o : Option Entry). option_map_or is_linkable (option_map (λ (e : Entry). e.body) o) false) (entry_at-next 0 s.entries s.next item valid.layout.numbers above) in
-        sym (no-item s valid item dir none)
+        sym (no-item s valid item dir (none-item s item (entry_at-next 0 s.entries s.next item valid.layout.numbers above)))

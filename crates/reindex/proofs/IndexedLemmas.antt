@@ -161,7 +161,8 @@ shown-if true (Mount space answers) = refl
 shown-if true Document = refl
 shown-if false body = refl
 
-dirty-if : (b : Bool) (body : Body) → cond b false (is_dirty body) ≡ is_dirty (indexed_if b body)
+-- a file that is indexed is clean
+pub dirty-if : (b : Bool) (body : Body) → cond b false (is_dirty body) ≡ is_dirty (indexed_if b body)
 dirty-if true (File text dirty shown) = refl
 dirty-if true other = refl
 dirty-if false body = refl

@@ -1,16 +1,15 @@
 -- Which files steps index that are taken in a batch.
-use Rattle.std.proofs.Common.{◌≡◌, ℕ, zero, suc, ◌+◌, ◌<◌, ◌≤◌, Bool, true, false, cond, List, [], ◌∷◌, ◌++◌, refl, ap, sym, ◌∙◌, subst, arith, inl, inr}
-use Rattle.std.specs.Prelude.{◌==◌, nat_le, replicate, Option, Some, None, is_none, is_some, option_and_then}
+use Rattle.std.proofs.Common.{◌≡◌, ℕ, zero, suc, ◌+◌, ◌<◌, ◌≤◌, Bool, true, false, cond, List, [], ◌∷◌, ◌++◌, map, refl, ap, sym, ◌∙◌, subst, arith, inl, inr}
+use Rattle.std.specs.Prelude.{◌==◌, nat_le, nat_lt, replicate, Option, Some, None, is_none, is_some, option_and_then}
 use Rattle.std.specs.Option.{option_map, option_map_or}
 use Rattle.std.proofs.lemmas.Bool.{and_parts, cases_lt, eqb-true}
 use Rattle.std.proofs.lemmas.Bool.Decides.{nat_tests}
 use Rattle.dep_graph.specs.Searches.{EachOnce}
-use Rattle.file_tree.specs.Answers.{is_dirty_at}
-use Rattle.file_tree.proofs.DirtyLemmas.{least-next, none-dirty}
+use Rattle.file_tree.specs.Answers.{entries_behind, is_dirty_at}
 use Rattle.hac_model.specs.Laws.{AllHappen}
 use Rattle.hac_model.specs.Tree.Bare.{bare, bare_body}
 use Rattle.hac_model.specs.Tree.Depends.{Among}
-use Rattle.hac_model.specs.Tree.Events.{accepted, apply, apply_all, next_dirty}
+use Rattle.hac_model.specs.Tree.Events.{accepted, apply, apply_all, edited, next_dirty}
 use Rattle.hac_model.specs.Tree.Limits.{passed_limit}
 use Rattle.hac_model.specs.Tree.Links.{shown_of}
 use Rattle.hac_model.specs.Tree.Valid.{IsLayout, IsSound, NumbersRise}
@@ -21,11 +20,11 @@ use Rattle.hac_model.specs.declared.states.Body.TheVariants.{File, Dir, Symlink,
 use Rattle.hac_model.specs.declared.states.Entry.{Entry}
 use Rattle.hac_model.specs.declared.states.State.{State}
 use Rattle.hac_model.proofs.AmongLemmas.{among-append, among-left, among-right}
-use Rattle.hac_model.proofs.MapLemmas.{test-mapped}
+use Rattle.hac_model.proofs.BareLemmas.{next_dirty-bare}
 use Rattle.hac_model.proofs.PathLemmas.{root-none}
-use Rattle.hac_model.proofs.TreeLemmas.{entry_at-above, entry_at-all, entry_at-next}
-use Rattle.reindex.specs.Steps.{AreIndexed, indexed_through}
-use Rattle.reindex.proofs.IndexedLemmas.{dirty-indexed, indexed-none, rise-indexed, step-indexed, text_of}
+use Rattle.hac_model.proofs.TreeLemmas.{entry_at-above, entry_at-all}
+use Rattle.reindex.specs.Steps.{AreIndexed, indexed_if, indexed_through, indexed_to}
+use Rattle.reindex.proofs.IndexedLemmas.{dirty-if, dirty-indexed, indexed-none, rise-indexed, step-indexed, text_of}
 
 -- One step after the other.
 
@@ -82,12 +81,8 @@ next-least above (e ∷ es) next file n h found dirty = at (next-least e.number 
 
 -- The files of so many steps.
 
--- what isn't above is clean
-pub clean-low : (s : State) (last n : ℕ) → n ≤ last → is_dirty_at (indexed_through last s).entries n ≡ false
-clean-low s last n low = let within : nat_le n last ≡ true = grind (arith, nat_tests) in dirty-indexed last s n ∙ ap (λ (b : Bool). cond b false (is_dirty_at s.entries n)) within
-
 -- what is above is as dirty as it was
-pub dirty-high : (s : State) (last n : ℕ) → last < n → is_dirty_at (indexed_through last s).entries n ≡ is_dirty_at s.entries n
+dirty-high : (s : State) (last n : ℕ) → last < n → is_dirty_at (indexed_through last s).entries n ≡ is_dirty_at s.entries n
 dirty-high s last n high = let out : nat_le n last ≡ false = grind (arith, nat_tests) in dirty-indexed last s n ∙ ap (λ (b : Bool). cond b false (is_dirty_at s.entries n)) out
 
 once-more : (files : List ℕ) (file : ℕ) → EachOnce files → (Among files file → ⊥) → EachOnce (files ++ file ∷ [])
@@ -159,35 +154,32 @@ clean-shown s n h clean = at (entry_at s.entries n) refl clean
 
 -- The next file that is dirty.
 
--- marks and answers have nothing to do with what is dirty
-pub dirty-bare : (s : State) (n : ℕ) → is_dirty_at (bare s).entries n ≡ is_dirty_at s.entries n
-dirty-bare s n = test-mapped is_dirty bare_body s.entries n kept
+-- it is the first one behind those that are indexed
+pub next-behind : (last : ℕ) (es : List Entry) → next_dirty (map (indexed_to last) es) ≡ next_dirty (entries_behind last es)
+next-behind last [] = refl
+next-behind last (e ∷ es) = at (next-behind last es) (nat_le e.number last) refl
   where
-    kept : (b : Body) → is_dirty (bare_body b) ≡ is_dirty b
-    kept (Semantic query permanent prohibited) = refl
-    kept (Mount space answers) = refl
-    kept other = refl
+    at : next_dirty (map (indexed_to last) es) ≡ next_dirty (entries_behind last es) → (b : Bool) → nat_le e.number last ≡ b → next_dirty (map (indexed_to last) (e ∷ es)) ≡ next_dirty (entries_behind last (e ∷ es))
+    at rest true low =
+        let out : nat_lt last e.number ≡ false = grind (arith, nat_tests) in
+        ap (λ (b : Bool). cond (is_dirty (indexed_if b e.body)) (Some e.number) (next_dirty (map (indexed_to last) es))) low
+        ∙ ap (λ (b : Bool). cond b (Some e.number) (next_dirty (map (indexed_to last) es))) (sym (dirty-if true e.body))
+        ∙ rest
+        ∙ ap (λ (b : Bool). next_dirty (cond b (e ∷ entries_behind last es) (entries_behind last es))) (sym out)
+    at rest false high =
+        let behind : nat_lt last e.number ≡ true = grind (arith, nat_tests) in
+        ap (λ (b : Bool). cond (is_dirty (indexed_if b e.body)) (Some e.number) (next_dirty (map (indexed_to last) es))) high
+        ∙ ap (λ (o : Option ℕ). cond (is_dirty e.body) (Some e.number) o) rest
+        ∙ ap (λ (b : Bool). next_dirty (cond b (e ∷ entries_behind last es) (entries_behind last es))) (sym behind)
 
-module _ (s : State) (h : IsLayout s) (last : ℕ) where
-  abbrev then : State
-  then = indexed_through last s
+-- marks and answers have nothing to do with which entries are behind
+behind-bare : (last : ℕ) (es : List Entry) → entries_behind last (map (edited bare_body) es) ≡ map (edited bare_body) (entries_behind last es)
+behind-bare last [] = refl
+behind-bare last (e ∷ es) = elim (nat_lt last e.number) as (λ b. cond b (edited bare_body e ∷ entries_behind last (map (edited bare_body) es)) (entries_behind last (map (edited bare_body) es)) ≡ map (edited bare_body) (cond b (e ∷ entries_behind last es) (entries_behind last es))) [
+  | true ↦ ap (λ (xs : List Entry). edited bare_body e ∷ xs) (behind-bare last es)
+  | false ↦ behind-bare last es
+]
 
-  rise-then : NumbersRise 0 then.entries s.next
-  rise-then = rise-indexed last 0 s.entries s.next h.numbers
-
-  -- the first that is dirty from there on is the next
-  pub behind-some : (file : ℕ) → is_dirty_at then.entries file ≡ true → ((n : ℕ) → last ≤ n → n < file → is_dirty_at then.entries n ≡ false) → next_dirty then.entries ≡ Some file
-  behind-some file dirty none = least-next 0 then.entries s.next file rise-then dirty (λ n less. elim (cases_lt n last) as (λ _. is_dirty_at then.entries n ≡ false) [
-    | inl low ↦ clean-low s last n (omega arith)
-    | inr high ↦ none n high less
-  ])
-
-  -- there is none where none is dirty
-  pub behind-none : ((n : ℕ) → last ≤ n → n < s.next → is_dirty_at then.entries n ≡ false) → next_dirty then.entries ≡ None
-  behind-none none = none-dirty then.entries (λ n. elim (cases_lt n last) as (λ _. is_dirty_at then.entries n ≡ false) [
-    | inl low ↦ clean-low s last n (omega arith)
-    | inr high ↦ elim (cases_lt n s.next) as (λ _. is_dirty_at then.entries n ≡ false) [
-      | inl less ↦ none n high less
-      | inr past ↦ ap (λ (o : Option Entry). option_map_or is_dirty (option_map (λ (e : Entry). e.body) o) false) (entry_at-next 0 then.entries s.next n rise-then past)
-    ]
-  ]) 0 s.next rise-then
+-- nor with which of them is the next
+pub next-bare : (last : ℕ) (s : State) → next_dirty (entries_behind last (bare s).entries) ≡ next_dirty (entries_behind last s.entries)
+next-bare last s = ap next_dirty (behind-bare last s.entries) ∙ next_dirty-bare (entries_behind last s.entries)

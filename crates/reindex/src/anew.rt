@@ -7,7 +7,7 @@ ghost use Rattle.reindex.specs.Anew.{AreAllNews, AreLinksBelow, LendsNothing, un
 ghost use Rattle.reindex.specs.Ways.{IsWayOf};
 
 use crate::indexing::{Indexing, shown_of};
-use crate::lookups::{is_document, is_item, know_lists, next_number};
+use crate::lookups::{is_document, is_item, know_lists};
 use crate::texts::stops_for;
 use crate::unjudged::Unjudged;
 use crate::ways::{FEW_STOPS, Way};
@@ -24,15 +24,14 @@ pub fn links_of(alloc: Global, kept: &KeptState, way: &Way) -> Result<Links, Mem
 {
     kept.know_valid();
     let mut found = Links::new(alloc)?;
-    for number in 0..next_number(kept).get() {
-        add_links(alloc, kept, way, &mut found, Number::new(number))?;
+    for number in kept.numbers(alloc)? {
+        add_links(alloc, kept, way, &mut found, number)?;
     }
     know_lists(&found);
     Ok(found)
 }
 
-/// Adds what the links of a state say of a number: nothing if it isn't that of an item. So it is
-/// passed over quickly, also where many were given and few are left.
+/// Adds what the links of a state say of a number: nothing if it isn't that of an item.
 fn add_links(
     alloc: Global,
     kept: &KeptState,

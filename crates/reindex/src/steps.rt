@@ -1,7 +1,6 @@
 //! The files that steps index, which are taken in a batch.
-ghost use Rattle.std.specs.Prelude.{◌≡◌, ◌++◌, ◌∷◌, [], IfOk, List, OnOk, Option, false, replicate, ℕ};
+ghost use Rattle.std.specs.Prelude.{◌≡◌, ◌++◌, ◌∷◌, [], IfOk, List, OnOk, replicate, ℕ};
 ghost use Rattle.dep_graph.specs.Searches.{EachOnce};
-ghost use Rattle.file_tree.specs.Answers.{is_dirty_at};
 ghost use Rattle.hac_model.specs.Laws.{AllHappen};
 ghost use Rattle.hac_model.specs.Tree.Depends.{Among};
 ghost use Rattle.hac_model.specs.Tree.Events.{apply_all, next_dirty};
@@ -14,7 +13,6 @@ ghost use Rattle.reindex.specs.Steps.{AreIndexed, AreSettled, indexed_through};
 ghost use Rattle.reindex.specs.Ways.{IsWayOf};
 
 use crate::indexing::{Indexing, shown_of};
-use crate::lookups::{next_dirty, next_number};
 use crate::past::Past;
 use crate::texts::stops_for;
 use crate::ways::{FEW_STOPS, Way, stops_of_way};
@@ -148,32 +146,5 @@ fn first_dirty(alloc: Global, kept: &KeptState, count: u64) -> Result<Batch, Mem
 fn next_dirty_behind(kept: &KeptState, last: Number) -> Option<Number>
     ensures { result ≡ next_dirty (indexed_through last kept.now.state).entries }
 {
-    kept.know_valid();
-    if last == Number::ROOT {
-        return next_dirty(kept);
-    }
-    for number in last.get()..next_number(kept).get() {
-        let file = Number::new(number);
-        if is_dirty_behind(kept, last, file) {
-            return Some(file);
-        }
-    }
-    None
-}
-
-/// Whether a file is still dirty then.
-fn is_dirty_behind(kept: &KeptState, last: Number, file: Number) -> bool
-    ensures { result ≡ is_dirty_at (indexed_through last kept.now.state).entries file }
-{
-    if file.get() <= last.get() {
-        return false;
-    }
-    is_dirty(kept, file)
-}
-
-/// Whether a file was made or written since it was last indexed.
-fn is_dirty(kept: &KeptState, file: Number) -> bool
-    ensures { result ≡ is_dirty_at kept.now.state.entries file }
-{
-    kept.tree().dirty(file)
+    kept.tree().next_dirty_behind(last)
 }

@@ -1,138 +1,57 @@
 -- What is stored of a state is told number by number, and by what is looked up of each.
-use Rattle.std.proofs.Common.{◌≡◌, ℕ, zero, suc, ◌+◌, ◌<◌, ◌≤◌, Bool, true, false, cond, List, [], ◌∷◌, ◌++◌}
-use Rattle.std.proofs.Common.{map, flat_map, refl, ap, sym, ◌∙◌, arith, inl, inr}
-use Rattle.std.specs.Prelude.{not, nat_lt, filter, Option, Some, None, is_some, option_to_list}
-use Rattle.std.specs.List.{AllByRecursion, range_with_len}
+use Rattle.std.proofs.Common.{◌≡◌, ℕ, Bool, true, false, cond, List, [], ◌∷◌, ◌++◌, map, flat_map, refl, ap, ◌∙◌}
+use Rattle.std.specs.Prelude.{not, filter, Option, Some, None, is_some, option_to_list}
+use Rattle.std.specs.List.{AllByRecursion}
 use Rattle.std.specs.Option.{option_map, option_map_or}
-use Rattle.std.proofs.lemmas.Bool.{cases_eq, cases_lt}
-use Rattle.std.proofs.lemmas.Bool.Decides.{nat_tests}
-use Rattle.std.proofs.lemmas.Grind.{flat_map-append}
-use Rattle.std.proofs.lemmas.List.{append-nil, map-append}
-use Rattle.std.proofs.lemmas.List.Elements.{filter-append}
-use Rattle.std.proofs.lemmas.List.Concat.{flat_map-cons}
 use Rattle.hac_model.specs.Payload.States.{listed_document, stored_entry}
 use Rattle.hac_model.specs.Tree.Listing.{children}
 use Rattle.hac_model.specs.Tree.{entry_at, is_document, is_document_at}
 use Rattle.hac_model.specs.Tree.Valid.{NumbersRise}
-use Rattle.hac_model.specs.declared.snapshots.Document.{Document}
 use Rattle.hac_model.specs.declared.snapshots.StoredEntry.{StoredEntry}
 use Rattle.hac_model.specs.declared.states.Entry.{Entry}
 use Rattle.hac_model.specs.declared.states.State.{State}
-use Rattle.hac_model.proofs.TreeLemmas.{entry_at-behind, entry_at-first, entry_at-low, entry_at-number}
+use Rattle.hac_model.proofs.TreeLemmas.{all-entries, entry_at-number}
+use Rattle.file_tree.specs.Answers.{numbers_of}
 use Rattle.file_tree.proofs.OrderLemmas.{children-found}
+use Rattle.kept_state.proofs.ListLemmas.{all-weaker}
 use Rattle.snapshots.specs.Taking.{document_at, documents_of, stored_at}
-
--- ---- numbers
-
-range-more : (a n : ℕ) → range_with_len a (suc n) ≡ range_with_len a n ++ (a + n) ∷ []
-range-more a zero = let same : a ≡ a + zero = omega arith in ap (λ (k : ℕ). k ∷ []) same
-range-more a (suc n) =
-    let same : a + 1 + n ≡ a + suc n = omega arith in
-    ap (λ (rest : List ℕ). a ∷ rest) (range-more (a + 1) n ∙ ap (λ (k : ℕ). range_with_len (a + 1) n ++ k ∷ []) same)
-
--- the numbers from 0 on, with one more
-range-next : (n : ℕ) → range_with_len 0 (n + 1) ≡ range_with_len 0 n ++ n ∷ []
-range-next n =
-    let one : n + 1 ≡ suc n = omega arith in
-    let last : 0 + n ≡ n = omega arith in
-    ap (range_with_len 0) one ∙ range-more 0 n ∙ ap (λ (k : ℕ). range_with_len 0 n ++ k ∷ []) last
-
--- what is made of one number more comes behind
-pub flat_next : {A : Type 0} (f : ℕ → List A) (n : ℕ)
-    → flat_map f (range_with_len 0 (n + 1)) ≡ flat_map f (range_with_len 0 n) ++ f n
-flat_next f n =
-    ap (flat_map f) (range-next n)
-    ∙ flat_map-append f (range_with_len 0 n) (n ∷ [])
-    ∙ ap (λ xs. flat_map f (range_with_len 0 n) ++ xs) (flat_map-cons f n [] ∙ append-nil (f n))
 
 -- ---- all entries
 
--- the entries that aren't documents, as they are stored
-abbrev plain : State → List Entry → List StoredEntry
-plain s es = map (stored_entry s) (filter (λ entry. not (is_document entry.body)) es)
-
-plain-append : (s : State) (es fs : List Entry) → plain s (es ++ fs) ≡ plain s es ++ plain s fs
-plain-append s es fs =
-    ap (λ (xs : List Entry). map (stored_entry s) xs) (filter-append (λ entry. not (is_document entry.body)) es fs)
-    ∙ map-append (stored_entry s) (filter (λ entry. not (is_document entry.body)) es)
-    (filter (λ entry. not (is_document entry.body)) fs)
-
--- the entries below a number
-abbrev below : ℕ → List Entry → List Entry
-below n es = filter (λ entry. nat_lt entry.number n) es
-
-below-none : (above n : ℕ) (es : List Entry) (next : ℕ) → NumbersRise above es next → n ≤ above + 1 → below n es ≡ []
-below-none above n [] next h low = refl
-below-none above n (e ∷ es) next h low =
-    let first : above < e.number = h.0 in
-    let test : nat_lt e.number n ≡ false = grind (arith, nat_tests) in
-    ap (λ (b : Bool). cond b (e ∷ below n es) (below n es)) test ∙ below-none e.number n es next h.1 (omega arith)
-
-below-all : (above : ℕ) (es : List Entry) (next : ℕ) → NumbersRise above es next → (below next es ≡ es) × (above < next)
-below-all above [] next h = (refl, h)
-below-all above (e ∷ es) next h =
-    let rest = below-all e.number es next h.1 in
-    let low : e.number < next = rest.1 in
-    let first : above < e.number = h.0 in
-    let test : nat_lt e.number next ≡ true = grind (arith, nat_tests) in
-    let first-in = ap (λ (b : Bool). cond b (e ∷ below next es) (below next es)) test in
-    (first-in ∙ ap (λ (xs : List Entry). e ∷ xs) rest.0, omega arith)
-
--- one number more adds its entry
-below-more : (above n : ℕ) (es : List Entry) (next : ℕ) → NumbersRise above es next
-    → below (n + 1) es ≡ below n es ++ option_to_list (entry_at es n)
-below-more above n [] next h = refl
-below-more above n (e ∷ es) next h = elim (cases_lt e.number n) [
-  | inl less ↦
-      (let small : nat_lt e.number (n + 1) ≡ true = grind (arith, nat_tests) in
-      let smaller : nat_lt e.number n ≡ true = grind (arith, nat_tests) in
-      let found : entry_at (e ∷ es) n ≡ entry_at es n = entry_at-behind e es n (λ same. omega arith) in
-      ap (λ (b : Bool). cond b (e ∷ below (n + 1) es) (below (n + 1) es)) small
-      ∙ ap (λ (xs : List Entry). e ∷ xs) (below-more e.number n es next h.1)
-      ∙ (λ i. cond (sym smaller i) (e ∷ below n es) (below n es) ++ option_to_list (sym found i)))
-  | inr more ↦
-      (let none : below n (e ∷ es) ≡ [] = not-yet more in
-      elim (cases_eq e.number n) [
-        | inl same ↦
-            (let small : nat_lt e.number (n + 1) ≡ true = grind (arith, nat_tests) in
-            let found : entry_at (e ∷ es) n ≡ Some e =
-            ap (λ (k : ℕ). entry_at (e ∷ es) k) (sym same) ∙ entry_at-first e es in
-            ap (λ (b : Bool). cond b (e ∷ below (n + 1) es) (below (n + 1) es)) small
-            ∙ ap (λ (xs : List Entry). e ∷ xs) (below-none e.number (n + 1) es next h.1 (omega (arith, same)))
-            ∙ (λ i. sym none i ++ option_to_list (sym found i)))
-        | inr other ↦
-            (let great : nat_lt e.number (n + 1) ≡ false = grind (arith, nat_tests) in
-            let found : entry_at (e ∷ es) n ≡ None =
-            entry_at-behind e es n other ∙ entry_at-low e.number es next n h.1 more in
-            ap (λ (b : Bool). cond b (e ∷ below (n + 1) es) (below (n + 1) es)) great
-            ∙ below-none e.number (n + 1) es next h.1 (omega (arith, more))
-            ∙ (λ i. sym none i ++ option_to_list (sym found i)))
-      ])
-]
+-- what is made of entries that pass a test is told by their numbers, where each entry is found by its own
+told : {A : Type 0} (f : Entry → A) (test : Entry → Bool) (s : State) (es : List Entry)
+    → AllByRecursion (λ e. entry_at s.entries e.number ≡ Some e) es
+    → flat_map (λ n. map f (filter test (option_to_list (entry_at s.entries n)))) (numbers_of es) ≡ map f (filter test es)
+told f test s [] found = refl
+told f test s (e ∷ es) found =
+    (λ i. map f (filter test (option_to_list (found.0 i))) ++ told f test s es found.1 i) ∙ first (test e)
   where
-    not-yet : n ≤ e.number → below n (e ∷ es) ≡ []
-    not-yet more =
-        let test : nat_lt e.number n ≡ false = grind (arith, nat_tests, more) in
-        ap (λ (b : Bool). cond b (e ∷ below n es) (below n es)) test ∙ below-none e.number n es next h.1 (omega arith)
+    first : (b : Bool) → map f (cond b (e ∷ []) []) ++ map f (filter test es)
+        ≡ map f (cond b (e ∷ filter test es) (filter test es))
+    first true = refl
+    first false = refl
 
-told-below : (s : State) (n : ℕ) → NumbersRise 0 s.entries s.next
-    → flat_map (stored_at s) (range_with_len 0 n) ≡ plain s (below n s.entries)
-told-below s zero h = ap (plain s) (sym (below-none 0 0 s.entries s.next h (omega arith)))
-told-below s (suc n) h =
-    let one : suc n ≡ n + 1 = omega arith in
-    ap (λ (k : ℕ). flat_map (stored_at s) (range_with_len 0 k)) one ∙ flat_next (stored_at s) n
-    ∙ ap (λ (xs : List StoredEntry). xs ++ stored_at s n) (told-below s n h)
-    ∙ sym (plain-append s (below n s.entries) (option_to_list (entry_at s.entries n)))
-    ∙ ap (plain s) (sym (below-more 0 n s.entries s.next h))
-    ∙ ap (λ (k : ℕ). plain s (below k s.entries)) (sym one)
-
--- what is stored of all numbers is what is stored of the entries
+-- what is stored of the numbers of the entries is what is stored of the entries
 pub stored-all : (s : State) → NumbersRise 0 s.entries s.next
-    → flat_map (stored_at s) (range_with_len 0 s.next)
+    → flat_map (stored_at s) (numbers_of s.entries)
     ≡ map (stored_entry s) (filter (λ entry. not (is_document entry.body)) s.entries)
-stored-all s h = told-below s s.next h ∙ ap (plain s) (below-all 0 s.entries s.next h).0
+stored-all s h =
+    told (stored_entry s) (λ entry. not (is_document entry.body)) s s.entries
+    (all-entries (λ e. entry_at s.entries e.number ≡ Some e) 0 s.entries s.next h (λ e found. found))
+
+-- the documents of a directory are told by the numbers of what is in it
+pub documents-told : (s : State) (dir : ℕ) → NumbersRise 0 s.entries s.next
+    → flat_map (document_at s) (numbers_of (children s dir)) ≡ documents_of s dir
+documents-told s dir h =
+    told listed_document (λ entry. is_document entry.body) s (children s dir)
+    (all-weaker (λ e. (entry_at s.entries e.number ≡ Some e) × (e.parent ≡ dir)) (λ e. entry_at s.entries e.number ≡ Some e)
+    (children s dir) (λ e found. found.0) (children-found s dir h))
 
 -- ---- one number
+
+-- what is stored of an entry, if there is one and it is no document
+abbrev plain : State → Option Entry → List StoredEntry
+plain s o = map (stored_entry s) (filter (λ entry. not (is_document entry.body)) (option_to_list o))
 
 -- what is stored of an entry that is no document
 pub stored-one : (s : State) (n : ℕ) (stored : StoredEntry) → is_document_at s.entries n ≡ false
@@ -140,7 +59,7 @@ pub stored-one : (s : State) (n : ℕ) (stored : StoredEntry) → is_document_at
 stored-one s n stored kind is = one (entry_at s.entries n) kind is
   where
     one : (o : Option Entry) → option_map_or is_document (option_map (λ (e : Entry). e.body) o) false ≡ false
-        → option_map (stored_entry s) o ≡ Some stored → plain s (option_to_list o) ≡ stored ∷ []
+        → option_map (stored_entry s) o ≡ Some stored → plain s o ≡ stored ∷ []
     one None kind is = absurd cc
     one (Some e) kind is =
         let same : stored_entry s e ≡ stored = cc in
@@ -151,7 +70,7 @@ pub stored-document : (s : State) (n : ℕ) → is_document_at s.entries n ≡ t
 stored-document s n kind = one (entry_at s.entries n) kind
   where
     one : (o : Option Entry) → option_map_or is_document (option_map (λ (e : Entry). e.body) o) false ≡ true
-        → plain s (option_to_list o) ≡ []
+        → plain s o ≡ []
     one None kind = refl
     one (Some e) kind = ap (λ (b : Bool). map (stored_entry s) (cond (not b) (e ∷ []) [])) kind
 
@@ -159,10 +78,11 @@ stored-document s n kind = one (entry_at s.entries n) kind
 pub stored-none : (s : State) (n : ℕ) → is_some (entry_at s.entries n) ≡ false → stored_at s n ≡ []
 stored-none s n none = one (entry_at s.entries n) none
   where
-    one : (o : Option Entry) → is_some o ≡ false → plain s (option_to_list o) ≡ []
+    one : (o : Option Entry) → is_some o ≡ false → plain s o ≡ []
     one None none = refl
     one (Some e) none = absurd cc
 
+-- a document is listed with its number and its name
 pub document-one : (s : State) (n : ℕ) (name : List ℕ) → is_document_at s.entries n ≡ true
     → option_map (λ (e : Entry). e.name) (entry_at s.entries n) ≡ Some name
     → document_at s n ≡ record { number = n; name = name } ∷ []
@@ -180,6 +100,7 @@ document-one s n name kind is = one (entry_at s.entries n) refl kind is
         ap (λ (b : Bool). map listed_document (cond b (e ∷ []) [])) kind
         ∙ (λ i. record { number = own i; name = same i } ∷ [])
 
+-- nothing is listed of what is no document
 pub document-none : (s : State) (n : ℕ) → is_document_at s.entries n ≡ false → document_at s n ≡ []
 document-none s n kind = one (entry_at s.entries n) kind
   where
@@ -187,26 +108,3 @@ document-none s n kind = one (entry_at s.entries n) kind
         → map listed_document (filter (λ entry. is_document entry.body) (option_to_list o)) ≡ []
     one None kind = refl
     one (Some e) kind = ap (λ (b : Bool). map listed_document (cond b (e ∷ []) [])) kind
-
--- documents among entries, as they are listed
-abbrev listed : List Entry → List Document
-listed es = map listed_document (filter (λ entry. is_document entry.body) es)
-
--- the documents of a directory are told by the numbers of what is in it
-pub documents-told : (s : State) (dir : ℕ) → NumbersRise 0 s.entries s.next
-    → flat_map (document_at s) (map (λ (e : Entry). e.number) (children s dir)) ≡ documents_of s dir
-documents-told s dir h = each (children s dir) (children-found s dir h)
-  where
-    one : (b : Bool) (e : Entry) (es : List Entry)
-        → map listed_document (cond b (e ∷ []) []) ++ listed es
-        ≡ map listed_document (cond b (e ∷ filter (λ entry. is_document entry.body) es)
-        (filter (λ entry. is_document entry.body) es))
-    one true e es = refl
-    one false e es = refl
-
-    each : (es : List Entry)
-        → AllByRecursion (λ (e : Entry). (entry_at s.entries e.number ≡ Some e) × (e.parent ≡ dir)) es
-        → flat_map (document_at s) (map (λ (e : Entry). e.number) es) ≡ listed es
-    each [] found = refl
-    each (e ∷ es) found =
-        (λ i. listed (option_to_list (found.0.0 i)) ++ each es found.1 i) ∙ one (is_document e.body) e es

@@ -30,14 +30,13 @@ pub fn snapshot(alloc: Global, kept: &KeptState) -> Result<Snapshot, Memory>
 }
 
 /// The entries but the documents, in order of number.
-#[tactic(auto, using(crate::proofs::TakingLemmas::flat_next))]
 fn stored_entries(alloc: Global, kept: &KeptState) -> Result<Vec<StoredEntry>, Memory>
     ensures { IfOk result (λ entries. entries.items ≡ (snapshot_of kept.now.state).entries) }
 {
     kept.know_valid();
     let mut entries = Vec::new(alloc);
-    for number in 0..kept.tree().next_number().get() {
-        push_stored(alloc, &mut entries, kept, Number::new(number))?;
+    for number in kept.numbers(alloc)? {
+        push_stored(alloc, &mut entries, kept, number)?;
     }
     Ok(entries)
 }

@@ -1,17 +1,14 @@
 -- How many links of each kind there are, by the lists that were found.
-use Rattle.std.proofs.Common.{◌≡◌, ℕ, ◌+◌, ◌*◌, ◌-◌, ◌<◌, ◌≤◌, Bool, true, false, List, [], ◌∷◌, length, refl, ap, sym, subst, ◌∙◌, arith, inl, inr}
-use Rattle.std.specs.Prelude.{Option, Some, None, sum_by, IsTrue}
-use Rattle.std.specs.List.{AllByRecursion, range_with_len}
+use Rattle.std.proofs.Common.{◌≡◌, ℕ, ◌-◌, ◌^◌, ◌<◌, ◌≤◌, Bool, true, false, List, [], length, refl, ap, sym, subst, ◌∙◌, arith, inl, inr}
+use Rattle.std.specs.Prelude.{Option, Some, None, sum_by}
 use Rattle.std.specs.Option.{option_map, option_map_or}
 use Rattle.std.proofs.lemmas.Bool.{cases_lt}
 use Rattle.std.proofs.lemmas.Bool.Decides.{nat_tests}
-use Rattle.std.proofs.lemmas.List.FromFn.{length-range_with_len}
-use Rattle.std.proofs.lemmas.List.Sums.{count_by-le-length, length-filter}
 use Rattle.hac_model.specs.Tree.Limits.{counts}
-use Rattle.hac_model.specs.Tree.Links.{can_be_added, has, is_item, items, over_directories, permanent_at, permanent_count, prohibited_at, prohibited_count, transient_at, transient_count}
+use Rattle.hac_model.specs.Tree.Links.{can_be_added, is_item, over_directories, permanent_at, permanent_count, prohibited_at, prohibited_count, transient_count}
 use Rattle.hac_model.specs.Run.Play.{counts_line}
 use Rattle.hac_model.specs.Tree.{entry_at, is_directory_at, is_linkable, permanent_in, prohibited_in}
-use Rattle.hac_model.specs.Tree.Valid.{AreMarks, AsksWell, IsLayout, IsValid, RiseFrom}
+use Rattle.hac_model.specs.Tree.Valid.{AreMarks, AsksWell, IsLayout, IsValid}
 use Rattle.hac_model.specs.declared.counts.Counts.{Counts}
 use Rattle.hac_model.specs.declared.limits.TheConstants.{NUMBERS_LIMIT}
 use Rattle.hac_model.specs.declared.marks.Kind.{Kind}
@@ -21,15 +18,16 @@ use Rattle.hac_model.specs.declared.states.Entry.{Entry}
 use Rattle.hac_model.specs.declared.states.State.{State}
 use Rattle.hac_model.proofs.ChangeLemmas.{or-cases}
 use Rattle.hac_model.proofs.LimitLemmas.{limits-within, most-numbers}
-use Rattle.hac_model.proofs.ListedLemmas.{found-listed}
 use Rattle.hac_model.proofs.ValidLemmas.{directory-below}
 use Rattle.hac_model.proofs.TreeLemmas.{entry_at-all, entry_at-next}
+use Rattle.file_tree.specs.Answers.{numbers_of}
 use Rattle.link_kinds.specs.Kinds.{items_of}
 use Rattle.link_kinds.specs.Seen.{Known, lists_in}
-use Rattle.tree_answers.specs.Counting.{CanCount, link_count}
+use Rattle.tree_answers.specs.Counting.{link_count}
 use Rattle.hac_model.specs.Run.Showing.{line_of_counts}
 use Rattle.tree_answers.proofs.PlainLemmas.{plain-counted}
-use Rattle.tree_answers.proofs.SumLemmas.{one_at, sum-small}
+use Rattle.tree_answers.proofs.RangeLemmas.{entries-sum}
+use Rattle.tree_answers.proofs.SumLemmas.{sum-small}
 
 -- Numbers of a valid state.
 
@@ -67,13 +65,16 @@ module _ (s : State) (h : IsValid s) where
       by_entry None none_at = (none (can_be_added s), none (is_item s))
       by_entry (Some e) there = by_body e.body (entry_at-all (λ e. AsksWell s e.body) s.entries dir e h.queries there)
 
-  -- links of a kind can be counted, where they are few
   module _ (kind : Kind) (links : Known) (numbers : ℕ → List ℕ) (are : (dir : ℕ) → items_of kind (lists_in links dir) ≡ numbers dir) where
-    pub can-count : ((dir : ℕ) → length (numbers dir) ≤ 196609 * one_at s.entries dir) → CanCount kind links
-    can-count few = sum-small s (λ dir. length (items_of kind (lists_in links dir))) h.layout (λ dir. subst (λ (ns : List ℕ). length ns ≤ 196609 * one_at s.entries dir) (sym (are dir)) (few dir))
+    -- links of a kind can be counted, where they are few
+    pub can-count : ((dir : ℕ) → length (numbers dir) ≤ 196609) → link_count kind s links < 2 ^ 63
+    can-count few = sum-small s (λ dir. length (items_of kind (lists_in links dir))) h.layout (λ dir. subst (λ (ns : List ℕ). length ns ≤ 196609) (sym (are dir)) (few dir))
 
-    pub count-told : link_count kind s links ≡ over_directories s numbers
-    count-told = λ i. sum_by (λ dir. length (are dir i)) (range_with_len 0 s.next)
+    -- those of entries are all, where what no entry is has none
+    pub count-told : ((dir : ℕ) → entry_at s.entries dir ≡ None → numbers dir ≡ []) → link_count kind s links ≡ over_directories s numbers
+    count-told none =
+        (λ i. sum_by (λ dir. length (are dir i)) (numbers_of s.entries))
+        ∙ sym (entries-sum s.entries s.next h.layout.numbers (λ dir. length (numbers dir)) (λ dir absent. ap (λ (ns : List ℕ). length ns) (none dir absent)))
 
 -- the line of a state is that of its counts
 pub line-counted : (s : State) (k : Counts) (transient permanent prohibited : ℕ) (line : List ℕ) → k ≡ counts s → transient ≡ transient_count s → permanent ≡ permanent_count s → prohibited ≡ prohibited_count s → line ≡ line_of_counts k (k.directories - 1 - k.semantics - k.mounts) transient permanent prohibited → line ≡ counts_line s

@@ -11,6 +11,7 @@ use Rattle.hac_model.specs.declared.states.Body.{Body}
 use Rattle.hac_model.specs.declared.states.Body.TheVariants.{File, Dir, Symlink, Semantic, Mount, Document}
 use Rattle.hac_model.specs.declared.states.Entry.{Entry}
 use Rattle.hac_model.specs.declared.states.State.{State}
+use Rattle.file_tree.specs.Answers.{numbers_of}
 use Rattle.file_tree.proofs.OrderLemmas.{children-found}
 
 -- what is no file has no text
@@ -22,10 +23,6 @@ no-text (Some (Symlink target)) other = refl
 no-text (Some (Semantic query permanent prohibited)) other = refl
 no-text (Some (Mount space answers)) other = refl
 no-text (Some Document) other = refl
-
--- the numbers of entries
-abbrev numbers_of : List Entry → List ℕ
-numbers_of es = map (λ (e : Entry). e.number) es
 
 -- the line of a number
 abbrev pub line_at : State → ℕ → List ℕ

@@ -1,8 +1,9 @@
 -- A list of links leaves out no number that is linked.
 use Rattle.std.proofs.Common.{◌≡◌, ℕ, zero, suc, ◌+◌, ◌-◌, ◌<◌, ◌≤◌, Bool, true, false, cond, List, [], ◌∷◌, ◌++◌, refl, ap, sym, subst, ◌∙◌, arith, eq-eqb, eqb-true, ne_eqb}
-use Rattle.std.specs.Prelude.{⊤, ◌&&◌, ◌||◌, ◌==◌, Option, None, Some, filter, nat_le, IsTrue}
+use Rattle.std.specs.Prelude.{⊤, ◌&&◌, ◌||◌, ◌==◌, Option, None, Some, nat_le, IsTrue}
 use Rattle.std.specs.List.{AllByRecursion, flat_map, range_with_len}
 use Rattle.std.proofs.lemmas.Bool.Decides.{nat_tests}
+use Rattle.std.proofs.lemmas.List.{append-nil}
 use Rattle.hac_model.specs.Tree.Links.{can_be_added, has, is_item, is_permanent, is_prohibited, items, kind, permanent_at, prohibited_at, transient_at}
 use Rattle.hac_model.specs.Tree.Valid.{AreMarks, IsValid, RiseFrom}
 use Rattle.hac_model.specs.Tree.{path_of}
@@ -10,12 +11,12 @@ use Rattle.hac_model.specs.Run.Play.{kind_lines}
 use Rattle.hac_model.specs.declared.marks.Kind.TheVariants.{Transient, Permanent, Prohibited, Unlinked}
 use Rattle.hac_model.specs.declared.states.State.{State}
 use Rattle.hac_model.proofs.ListedLemmas.{found-listed}
-use Rattle.hac_model.proofs.MarkLemmas.{has-filter}
+use Rattle.hac_model.proofs.MarkLemmas.{has-filter, rise-filter}
+use Rattle.file_tree.proofs.RisingLemmas.{has-low}
 use Rattle.set_pool.specs.Rising.{first_from}
 use Rattle.tree_answers.specs.NextLinks.{lesser, next_linked}
 use Rattle.tree_answers.proofs.CountsLemmas.{are-marks, item-below, markable-below}
-use Rattle.tree_answers.proofs.RangeLemmas.{append-none, flat_next}
-use Rattle.tree_answers.proofs.ReferringLemmas.{has-low}
+use Rattle.tree_answers.proofs.RangeLemmas.{flat_next, range-rises}
 
 -- the number comes before another, if there is one
 abbrev IsBefore : ℕ → Option ℕ → Type 0
@@ -23,22 +24,6 @@ IsBefore k None = ⊤
 IsBefore k (Some a) = k < a
 
 -- Numbers that rise.
-
-rise-lower : (low bound : ℕ) (ns : List ℕ) → low ≤ bound → RiseFrom bound ns → RiseFrom low ns
-rise-lower low bound [] less rise = tt
-rise-lower low bound (n ∷ ns) less rise = (omega (arith, less, rise.0), rise.1)
-
--- those that pass rise
-rise-filter : (p : ℕ → Bool) (bound : ℕ) (ns : List ℕ) → RiseFrom bound ns → RiseFrom bound (filter p ns)
-rise-filter p bound [] rise = tt
-rise-filter p bound (n ∷ ns) rise = elim (p n) as (λ b. RiseFrom bound (cond b (n ∷ filter p ns) (filter p ns))) [
-  | true ↦ (rise.0, rise-filter p (n + 1) ns rise.1)
-  | false ↦ rise-lower bound (n + 1) (filter p ns) (omega (arith, rise.0)) (rise-filter p (n + 1) ns rise.1)
-]
-
-range-rise : (first n : ℕ) → RiseFrom first (range_with_len first n)
-range-rise first zero = tt
-range-rise first (suc n) = (omega arith, range-rise (first + 1) n)
 
 -- none is between a number and the first from it on
 first-clear : (low from : ℕ) (ns : List ℕ) (k : ℕ) → RiseFrom low ns → from ≤ k → IsBefore k (first_from from ns) → has ns k ≡ false
@@ -104,7 +89,7 @@ skip-by f from (suc d) none =
     ap (λ (n : ℕ). flat_map f (range_with_len 0 n)) one
     ∙ flat_next f (from + d)
     ∙ ap (λ lines. flat_map f (range_with_len 0 (from + d)) ++ lines) (none (from + d) (omega arith) (omega arith))
-    ∙ append-none (flat_map f (range_with_len 0 (from + d)))
+    ∙ append-nil (flat_map f (range_with_len 0 (from + d)))
     ∙ skip-by f from d (λ k more less. none k more (omega (arith, less)))
 
 skipped : {A : Type 0} (f : ℕ → List A) (from to : ℕ) → from ≤ to → ((k : ℕ) → from ≤ k → k < to → f k ≡ []) → flat_map f (range_with_len 0 to) ≡ flat_map f (range_with_len 0 from)
@@ -120,7 +105,7 @@ line_of s dir number = kind_lines (path_of s number) (kind s dir number)
 
 module _ (s : State) (h : IsValid s) (dir : ℕ) where
   found-rise : RiseFrom 0 (transient_at s dir)
-  found-rise = subst (RiseFrom 0) (sym (found-listed s dir h.acyclic)) (rise-filter (λ item. has (transient_at s dir) item) 0 (items s) (rise-filter (is_item s) 0 (range_with_len 0 s.next) (range-rise 0 s.next)))
+  found-rise = subst (RiseFrom 0) (sym (found-listed s dir h.acyclic)) (rise-filter (λ item. has (transient_at s dir) item) 0 (items s) (rise-filter (is_item s) 0 (range_with_len 0 s.next) (range-rises 0 s.next)))
 
   -- what is found, added and removed nowhere has no line
   no-line : (k : ℕ) → has (transient_at s dir) k ≡ false → is_permanent s dir k ≡ false → is_prohibited s dir k ≡ false → line_of s dir k ≡ []

@@ -1,14 +1,14 @@
--- The questions for a query: mounts are gone through by their numbers.
-use Rattle.std.proofs.Common.{◌≡◌, ℕ, zero, suc, ◌+◌, ◌<◌, Bool, true, false, cond, List, [], ◌∷◌, ◌++◌, map, length, refl, ap, sym, subst, ◌∙◌, arith, inl, inr}
-use Rattle.std.specs.Prelude.{◌==◌, ◌&&◌, filter, if◌then◌else◌, Option, Some, None}
-use Rattle.std.specs.List.{flat_map, range_with_len}
+-- The questions for a query: entries are gone through by their numbers.
+use Rattle.std.proofs.Common.{◌≡◌, ℕ, ◌+◌, Bool, true, false, cond, List, [], ◌∷◌, ◌++◌, map, length, refl, ap, sym, ◌∙◌, arith}
+use Rattle.std.specs.Prelude.{◌==◌, ◌&&◌, filter, if◌then◌else◌, Option, Some}
+use Rattle.std.specs.List.{flat_map}
 use Rattle.std.specs.Option.{option_map, option_map_or}
-use Rattle.std.proofs.lemmas.Bool.{cases_lt}
 use Rattle.hac_model.specs.Query.Formula.{Formula}
 use Rattle.hac_model.specs.Query.Queries.{terms_of}
 use Rattle.hac_model.specs.Run.Asks.{documents_named, mounts_asked, query_asks, searches_of, space_of}
 use Rattle.hac_model.specs.declared.spaces.Search.{Search}
 use Rattle.std.proofs.lemmas.List.{length-append, length-map}
+use Rattle.std.proofs.lemmas.List.Folds.{flat_map-map}
 use Rattle.hac_model.specs.Tree.Asking.{asked_by, unanswered}
 use Rattle.hac_model.specs.Tree.Bare.{bare, bare_body}
 use Rattle.hac_model.specs.Tree.Events.{edited}
@@ -24,42 +24,12 @@ use Rattle.hac_model.specs.declared.states.Entry.{Entry}
 use Rattle.hac_model.specs.declared.states.State.{State}
 use Rattle.hac_model.specs.declared.terms.Term.{Term}
 use Rattle.hac_model.proofs.CountLemmas.{measured-cons, one_if}
-use Rattle.hac_model.proofs.TreeLemmas.{entry_at-behind, entry_at-low, rise-below}
 use Rattle.hac_model.proofs.ValidLemmas.{found-all}
 use Rattle.std.specs.List.{AllByRecursion}
+use Rattle.file_tree.specs.Answers.{numbers_of}
 use Rattle.tree_answers.specs.Asked.{mount_of, questions, questions_about, questions_at, questions_to}
 use Rattle.kept_state.proofs.StateLemmas.{alike}
 use Rattle.tree_answers.specs.declared.asking.Question.{Question}
-
--- what is made of the numbers of entries is made of all numbers, where nothing is made of the others
-module _ {A : Type 0} (f : ℕ → List A) where
-  range-walk : (above k : ℕ) (es : List Entry) → NumbersRise above es (above + 1 + k) → ((n : ℕ) → above < n → entry_at es n ≡ None → f n ≡ []) → flat_map f (range_with_len (above + 1) k) ≡ flat_map (λ (e : Entry). f e.number) es
-  range-walk above zero [] h none = refl
-  range-walk above zero (e ∷ es) h none = let low = rise-below e.number es (above + 1 + 0) h.1 in let first = h.0 in absurd (omega (arith, first, low))
-  range-walk above (suc k) [] h none =
-      (λ i. none (above + 1) (omega arith) refl i ++ flat_map f (range_with_len (above + 1 + 1) k))
-      ∙ range-walk (above + 1) k [] (omega arith) (λ n more there. none n (omega (arith, more)) there)
-  range-walk above (suc k) (e ∷ es) h none =
-      let sum : above + 1 + suc k ≡ above + 1 + 1 + k = omega arith in
-      let first : above < e.number = h.0 in
-      let behind : NumbersRise e.number es (above + 1 + 1 + k) = subst (NumbersRise e.number es) sum h.1 in
-      elim (cases_lt (above + 1) e.number) as (λ _. flat_map f (range_with_len (above + 1) (suc k)) ≡ flat_map (λ (e : Entry). f e.number) (e ∷ es)) [
-        | inl less ↦
-            (λ i. none (above + 1) (omega arith) (entry_at-low (above + 1) (e ∷ es) (above + 1 + 1 + k) (above + 1) (less, behind) (omega arith)) i ++ flat_map f (range_with_len (above + 1 + 1) k))
-            ∙ range-walk (above + 1) k (e ∷ es) (less, behind) (λ n more there. none n (omega (arith, more)) there)
-        | inr least ↦
-            (let same : above + 1 ≡ e.number = omega (arith, first, least) in
-            (λ i. f (same i) ++ flat_map f (range_with_len (above + 1 + 1) k))
-            ∙ ap (λ (rest : List A). f e.number ++ rest) (range-walk (above + 1) k es (subst (λ (n : ℕ). NumbersRise n es (above + 1 + 1 + k)) (sym same) behind)
-            (λ n more there. none n (omega (arith, more)) (entry_at-behind e es n (λ even. omega (arith, more, same, even)) ∙ there))))
-      ]
-
-  pub range-entries : (es : List Entry) (next : ℕ) → NumbersRise 0 es next → ((n : ℕ) → entry_at es n ≡ None → f n ≡ []) → flat_map f (range_with_len 0 next) ≡ flat_map (λ (e : Entry). f e.number) es
-  range-entries es zero h none = let low = rise-below 0 es 0 h in absurd (omega (arith, low))
-  range-entries es (suc k) h none =
-      let sum : suc k ≡ 0 + 1 + k = omega arith in
-      (λ i. none 0 (entry_at-low 0 es (suc k) 0 h (omega arith)) i ++ flat_map f (range_with_len (0 + 1) k))
-      ∙ range-walk 0 k es (subst (NumbersRise 0 es) sum h) (λ n more there. none n there)
 
 -- Each mount is asked about the terms of the query, in order.
 
@@ -77,11 +47,8 @@ module _ (s : State) (query : Formula ℕ) where
   asked-entries [] h = refl
   asked-entries (e ∷ es) h = λ i. asked-entry e h.0 i ++ asked-entries es h.1 i
 
-  pub all-asked : NumbersRise 0 s.entries s.next → flat_map (questions_at s terms) (range_with_len 0 s.next) ≡ questions s query
-  all-asked h =
-      range-entries (questions_at s terms) s.entries s.next h
-      (λ n none. ap (λ (o : Option Entry). cond (option_map_or is_mount (option_map (λ (e : Entry). e.body) o) false) (questions_about s n terms) []) none)
-      ∙ asked-entries s.entries (found-all 0 s.entries s.next h)
+  pub all-asked : NumbersRise 0 s.entries s.next → flat_map (questions_at s terms) (numbers_of s.entries) ≡ questions s query
+  all-asked h = flat_map-map (questions_at s terms) (λ (e : Entry). e.number) s.entries ∙ asked-entries s.entries (found-all 0 s.entries s.next h)
 
   -- without mounts nothing is asked
   none-in : (es : List Entry) → mount_count es ≡ 0 → flat_map (λ (e : Entry). questions_to e.number (asked_by (answers_at s) query e)) es ≡ []

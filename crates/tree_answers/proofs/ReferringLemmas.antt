@@ -1,11 +1,9 @@
 -- Which directories refer to another, by a graph and by the entries.
-use Rattle.std.proofs.Common.{◌≡◌, ℕ, suc, ◌+◌, ◌<◌, ◌≤◌, Bool, true, false, cond, List, [], ◌∷◌, ◌++◌, length, map, filter, eqb, subst, refl, ap, sym, ◌∙◌, arith, inl, inr, eq-eqb, ne_eqb, eqb-true}
-use Rattle.std.specs.Prelude.{◌==◌, ◌&&◌, ◌||◌, ◌↔◌, slice_index, not, drop, Option, Some, None, IsPermutation, IsSorted, option_and_then}
+use Rattle.std.proofs.Common.{◌≡◌, ℕ, suc, Bool, true, false, cond, List, [], ◌∷◌, ◌++◌, length, map, filter, eqb, refl, ap, sym, ◌∙◌, arith, inl, inr, eq-eqb, ne_eqb, eqb-true}
+use Rattle.std.specs.Prelude.{◌==◌, ◌&&◌, ◌||◌, ◌↔◌, not, drop, Option, Some, None, IsPermutation, IsSorted, option_and_then}
 use Rattle.std.specs.List.{AllByRecursion, IsDistinct, list_all}
-use Rattle.std.specs.List.Sorted.{IsStrictlyIncreasing}
 use Rattle.std.specs.Option.{option_map, option_map_or}
 use Rattle.std.specs.Ordering.{nat_cmp}
-use Rattle.std.proofs.lemmas.Bool.{cases_lt, cases_order}
 use Rattle.std.proofs.lemmas.List.Folds.{list_any-append}
 use Rattle.std.proofs.lemmas.List.Sorted.{IsNonDecreasingBy-from_sort, list_any-IsPermutation}
 use Rattle.std.proofs.lemmas.Map.Keys.{IsDistinct-IsPermutation, IsStrictlyIncreasing-from_distinct}
@@ -15,62 +13,21 @@ use Rattle.hac_model.specs.Tree.Events.{is_unreferenced}
 use Rattle.hac_model.specs.Query.Formula.{Formula}
 use Rattle.hac_model.specs.Tree.Links.{has}
 use Rattle.hac_model.specs.Tree.{entry_at, is_directory_at, path_of, permanent_in, query_in}
-use Rattle.hac_model.specs.Tree.Valid.{IsValid, NumbersRise, RiseFrom}
+use Rattle.hac_model.specs.Tree.Valid.{IsValid, NumbersRise}
 use Rattle.hac_model.specs.declared.states.Body.{Body}
 use Rattle.hac_model.specs.declared.states.Body.TheVariants.{File, Dir, Symlink, Semantic, Mount, Document}
 use Rattle.hac_model.specs.declared.states.Entry.{Entry}
 use Rattle.hac_model.specs.declared.states.State.{State}
+use Rattle.hac_model.proofs.ChangeLemmas.{numbers-filter}
 use Rattle.hac_model.proofs.MarkLemmas.{has-filter}
 use Rattle.hac_model.proofs.TreeLemmas.{entry_at-low}
+use Rattle.file_tree.specs.Answers.{numbers_of}
+use Rattle.file_tree.proofs.LiveLemmas.{numbers-rise}
+use Rattle.file_tree.proofs.RisingLemmas.{eqb-turned, has-first, rising-one, steps-rise}
 use Rattle.dep_graph.specs.Graphs as graph
 use Rattle.dep_graph.specs.Graphs.{referred_by}
 use Rattle.dep_graph.specs.Searches.{EachOnce}
 use Rattle.kept_state.specs.Readers.{AreEdgesOf}
-use Rattle.link_kinds.proofs.HasLemmas.{eqb-turned}
-
--- Numbers that rise.
-
-has-first : (n : ℕ) (ns : List ℕ) → has (n ∷ ns) n ≡ true
-has-first n ns = ap (λ (b : Bool). b || has ns n) (eq-eqb n n refl)
-
--- none is below the bound
-pub has-low : (bound : ℕ) (ns : List ℕ) (k : ℕ) → RiseFrom bound ns → k < bound → has ns k ≡ false
-has-low bound [] k rise less = refl
-has-low bound (n ∷ ns) k rise less =
-    let above : k < n = omega (arith, less, rise.0) in
-    ap (λ (b : Bool). b || has ns k) (ne_eqb n k (λ same. omega (arith, above, same))) ∙ has-low (n + 1) ns k rise.1 (omega (arith, above))
-
--- two lists of numbers that rise are one, where they have the same numbers
-pub rising-one : (low high : ℕ) (ms ns : List ℕ) → RiseFrom low ms → RiseFrom high ns → ((k : ℕ) → has ms k ≡ has ns k) → ms ≡ ns
-rising-one low high [] [] h k same = refl
-rising-one low high [] (n ∷ ns) h k same = absurd (let none : false ≡ true = same n ∙ has-first n ns in cc)
-rising-one low high (m ∷ ms) [] h k same = absurd (let none : true ≡ false = sym (has-first m ms) ∙ same m in cc)
-rising-one low high (m ∷ ms) (n ∷ ns) h k same =
-    elim (cases_order m n) [
-      | inl is ↦ (λ i. is i ∷ rising-one (m + 1) (n + 1) ms ns h.1 k.1 (rest is) i)
-      | inr (inl less) ↦ absurd (let none : true ≡ false = sym (has-first m ms) ∙ same m ∙ has-low n (n ∷ ns) m (omega arith, k.1) less in cc)
-      | inr (inr more) ↦ absurd (let none : true ≡ false = sym (has-first n ns) ∙ sym (same n) ∙ has-low m (m ∷ ms) n (omega arith, h.1) more in cc)
-    ]
-  where
-    rest : m ≡ n → (x : ℕ) → has ms x ≡ has ns x
-    rest is x = elim (cases_lt m x) [
-      | inl above ↦
-          sym (ap (λ (b : Bool). b || has ms x) (ne_eqb m x (λ other. omega (arith, above, other))))
-          ∙ same x
-          ∙ ap (λ (b : Bool). b || has ns x) (ne_eqb n x (λ other. omega (arith, above, is, other)))
-      | inr low ↦ has-low (m + 1) ms x h.1 (omega (arith, low)) ∙ sym (has-low (n + 1) ns x k.1 (omega (arith, low, is)))
-    ]
-
--- each number is below the next
-pub steps-rise : (bound : ℕ) (ns : List ℕ) → ((n : ℕ) (more : List ℕ) → ns ≡ n ∷ more → bound ≤ n) → IsStrictlyIncreasing ns → RiseFrom bound ns
-steps-rise bound [] low h = tt
-steps-rise bound (n ∷ []) low h = (low n [] refl, tt)
-steps-rise bound (n ∷ m ∷ ns) low h = (
-  low n (m ∷ ns) refl,
-  steps-rise (n + 1) (m ∷ ns)
-      (λ k more is. let same : m ≡ k = cc in let less : n < m = h 0 (omega arith) in omega arith)
-      (λ k inside. subst (λ (j : ℕ). slice_index (m ∷ ns) k < slice_index (n ∷ m ∷ ns) j) {x = suc k + 1} {y = suc (k + 1)} (omega arith) (h (suc k) (omega arith))),
-)
 
 -- Who is among numbers.
 
@@ -103,21 +60,7 @@ once-distinct (n ∷ ns) once = (each-apart n ns once.0, once-distinct ns once.1
 
 -- Entries.
 
--- the numbers of entries
-abbrev numbers_of : List Entry → List ℕ
-numbers_of es = map (λ (e : Entry). e.number) es
-
 module _ (test : Entry → Bool) where
-  -- the numbers of some of the entries rise
-  some-rise : (bound above : ℕ) (es : List Entry) (next : ℕ) → NumbersRise above es next → bound ≤ above + 1 → RiseFrom bound (numbers_of (filter test es))
-  some-rise bound above [] next h low = tt
-  some-rise bound above (e ∷ es) next h low =
-      let first : above < e.number = h.0 in
-      elim (test e) as (λ b. RiseFrom bound (numbers_of (cond b (e ∷ filter test es) (filter test es)))) [
-        | true ↦ (omega arith, some-rise (e.number + 1) e.number es next h.1 (omega arith))
-        | false ↦ some-rise bound e.number es next h.1 (omega arith)
-      ]
-
   -- those that pass are the entries that pass
   has-passing : (above : ℕ) (es : List Entry) (next n : ℕ) → NumbersRise above es next → has (numbers_of (filter test es)) n ≡ option_map_or test (entry_at es n) false
   has-passing above [] next n h = refl
@@ -184,6 +127,6 @@ module _ (s : State) (valid : IsValid s) (edges : graph.Seen) (are : AreEdgesOf 
       ap (map (path_of s))
       (rising-one 0 0 sorted (numbers_of (referrers s dir))
       (steps-rise 0 sorted (λ n more is. omega arith) (IsStrictlyIncreasing-from_distinct sorted (IsNonDecreasingBy-from_sort (λ n. n) sorted order) (IsDistinct-IsPermutation eqb eqb-turned found sorted same (once-distinct found once))))
-      (some-rise (refers_to dir) 0 0 s.entries s.next valid.layout.numbers (omega arith))
+      (numbers-rise 0 0 (referrers s dir) s.next (numbers-filter (refers_to dir) 0 s.entries s.next valid.layout.numbers) (omega arith))
       (λ q. sym (referrers-found q ∙ list_any-IsPermutation (λ n. n == q) found sorted same)))
       ∙ map-map (path_of s) (λ (e : Entry). e.number) (referrers s dir)

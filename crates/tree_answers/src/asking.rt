@@ -1,15 +1,16 @@
 //! What the mounts have to be asked for a query, and what they are told by the names that their
 //! spaces answer. Nobody is asked here, and nothing is kept.
 ghost use Rattle.std.specs.Prelude.{◌≡◌, ◌++◌, ◌∷◌, ◌≤◌, [], map, length, None, IfOk, OnOk};
-ghost use Rattle.std.specs.List.{flat_map, prefix_len, range_with_len};
+ghost use Rattle.std.specs.List.{flat_map, prefix_len};
 ghost use Rattle.hac_model.specs.Query.Queries.{terms_of};
 ghost use Rattle.hac_model.specs.Query.Terms.{is_term_before};
 ghost use Rattle.hac_model.specs.Run.Asks.{documents_named, query_asks, told_for, told_to};
 ghost use Rattle.hac_model.specs.Tree.Mounts.{in_order, put_term};
+ghost use Rattle.file_tree.specs.Answers.{numbers_of};
 ghost use Rattle.kept_state.specs.Answers.{AreTermsInOrder};
 ghost use Rattle.tree_answers.specs.Asked.{mount_of, questions, questions_about, questions_at};
 
-use crate::lookups::{is_mount, next_number};
+use crate::lookups::is_mount;
 use crate::numbering;
 use hac_model::{Memory, Name, Node, Number, Query, Seq, Term};
 use kept_state::KeptState;
@@ -41,15 +42,14 @@ pub fn questions(
 }
 
 /// The questions about terms to all mounts.
-#[tactic(auto, using(crate::proofs::RangeLemmas::flat_next))]
 fn questions_about(alloc: Global, kept: &KeptState, terms: &[Term]) -> Result<Vec<Question>, Memory>
     ensures { IfOk result (λ asked. asked.items
         ≡ flat_map (questions_at kept.now.state terms.now)
-        (range_with_len 0 kept.now.state.next)) }
+        (numbers_of kept.now.state.entries)) }
 {
     let mut questions = Vec::new(alloc);
-    for number in 0..next_number(kept) {
-        push_questions_at(&mut questions, kept, terms, Number::new(number))?;
+    for number in kept.numbers(alloc)? {
+        push_questions_at(&mut questions, kept, terms, number)?;
     }
     Ok(questions)
 }

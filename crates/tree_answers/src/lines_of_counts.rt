@@ -1,12 +1,11 @@
 //! The line of counts.
-ghost use Rattle.std.specs.Prelude.{◌≡◌, ◌≤◌, ◌∷◌, ◌++◌, ◌+◌, ◌-◌, [], IfOk, OnOk};
+ghost use Rattle.std.specs.Prelude.{◌≡◌, ◌<◌, ◌≤◌, ◌∷◌, ◌++◌, ◌+◌, ◌-◌, ◌^◌, [], IfOk, OnOk};
 ghost use Rattle.hac_model.specs.Tree.Links.{permanent_count, prohibited_count, transient_count};
 ghost use Rattle.hac_model.specs.Run.Play.{count_text, counts_line};
 ghost use Rattle.hac_model.specs.Run.Showing.{line_of_counts};
-ghost use Rattle.tree_answers.specs.Counting.{CanCount, link_count};
+ghost use Rattle.tree_answers.specs.Counting.{link_count};
 
-use crate::lookups::next_number;
-use hac_model::{Counts, Kind, Memory, Name, Number};
+use hac_model::{Counts, Kind, Memory, Name};
 use kept_links::LinkedState;
 use kept_state::KeptState;
 use link_kinds::Links;
@@ -17,35 +16,35 @@ pub fn counts_lines(alloc: Global, linked: &LinkedState) -> Result<Vec<Name>, Me
     ensures { IfOk result (λ lines. lines.items ≡ counts_line linked.now.state ∷ []) }
 {
     let kept = linked.kept();
-    let transient = transient_count(linked);
-    let permanent = permanent_count(kept);
-    let prohibited = prohibited_count(kept);
+    let transient = transient_count(alloc, linked)?;
+    let permanent = permanent_count(alloc, kept)?;
+    let prohibited = prohibited_count(alloc, kept)?;
     let mut lines = Vec::new(alloc);
     lines.push(line_of_counts(alloc, kept.counts(), transient, permanent, prohibited)?)?;
     Ok(lines)
 }
 
 /// How many items directories found.
-fn transient_count(linked: &LinkedState) -> u64
-    ensures { result ≡ transient_count linked.now.state }
+fn transient_count(alloc: Global, linked: &LinkedState) -> Result<u64, Memory>
+    ensures { IfOk result (λ count. count ≡ transient_count linked.now.state) }
 {
     let kept = linked.kept();
     kept.know_valid();
-    link_count(kept, linked.links(), Kind::Transient)
+    link_count(alloc, kept, linked.links(), Kind::Transient)
 }
 
 /// How many items users added to directories.
-fn permanent_count(kept: &KeptState) -> u64
-    ensures { result ≡ permanent_count kept.now.state }
+fn permanent_count(alloc: Global, kept: &KeptState) -> Result<u64, Memory>
+    ensures { IfOk result (λ count. count ≡ permanent_count kept.now.state) }
 {
-    link_count(kept, kept.marks(), Kind::Permanent)
+    link_count(alloc, kept, kept.marks(), Kind::Permanent)
 }
 
 /// How many items they removed from directories.
-fn prohibited_count(kept: &KeptState) -> u64
-    ensures { result ≡ prohibited_count kept.now.state }
+fn prohibited_count(alloc: Global, kept: &KeptState) -> Result<u64, Memory>
+    ensures { IfOk result (λ count. count ≡ prohibited_count kept.now.state) }
 {
-    link_count(kept, kept.marks(), Kind::Prohibited)
+    link_count(alloc, kept, kept.marks(), Kind::Prohibited)
 }
 
 /// The line, given the counts of a tree, and how many links of each kind there are.
@@ -89,15 +88,14 @@ fn push_count(alloc: Global, line: &mut Vec<u8>, word: &[u8], count: u64) -> Res
     Ok(())
 }
 
-/// How many links of a kind there are.
-#[tactic(auto, using(crate::proofs::RangeLemmas::sum_next))]
-fn link_count(kept: &KeptState, links: &Links, kind: Kind) -> u64
-    requires { CanCount kind links.now }
-    ensures { result ≡ link_count kind kept.now.state links.now }
+/// How many links of a kind there are, over all entries.
+fn link_count(alloc: Global, kept: &KeptState, links: &Links, kind: Kind) -> Result<u64, Memory>
+    requires { link_count kind kept.now.state links.now < 2 ^ 63 }
+    ensures { IfOk result (λ count. count ≡ link_count kind kept.now.state links.now) }
 {
     let mut sum: u64 = 0;
-    for number in 0..next_number(kept) {
-        sum += links.count(Number::new(number), kind);
+    for number in kept.numbers(alloc)? {
+        sum += links.count(number, kind);
     }
-    sum
+    Ok(sum)
 }

@@ -1,6 +1,7 @@
 //! The lines of links: those of a semantic directory, and what a query finds anywhere.
-ghost use Rattle.std.specs.Prelude.{◌≡◌, ◌∷◌, ◌++◌, [], length, map, if◌then◌else◌, IfOk, OnOk};
-ghost use Rattle.std.specs.List.{flat_map, range_with_len};
+ghost use Rattle.std.specs.Prelude.{◌≡◌, ◌∷◌, ◌++◌, [], filter, length, map, if◌then◌else◌, IfOk};
+ghost use Rattle.std.specs.Prelude.{OnOk};
+ghost use Rattle.file_tree.specs.Answers.{numbers_of};
 ghost use Rattle.hac_model.specs.Tree.Asking.{with_told};
 ghost use Rattle.hac_model.specs.Tree.Links.{found_as, kind};
 ghost use Rattle.hac_model.specs.Tree.Paths.{path_text};
@@ -12,7 +13,7 @@ ghost use Rattle.tree_answers.specs.Told.{is_found_told};
 
 use crate::asking::{questions_answered, told_by};
 use crate::finding::kind_of;
-use crate::lookups::{is_document, is_judged_item, next_number};
+use crate::lookups::{is_document, is_judged_item};
 use crate::telling::{Told, satisfies_told};
 use hac_model::{Kind, Memory, Name, Number, Query, Seq};
 use hac_names::print_path;
@@ -122,21 +123,18 @@ pub fn found_lines(
 }
 
 /// The lines of the items that a query finds.
-#[tactic(auto, using(crate::proofs::RangeLemmas::flat_next))]
 fn lines_of_found(
     alloc: Global,
     told: &Told<'_>,
     query: &Query<Number>,
 ) -> Result<Vec<Name>, Memory>
-    ensures { IfOk result (λ lines. lines.items ≡ flat_map
-        (λ item. if is_found_told told.now query.now item
-        then found_line told.now.linked.now.state item ∷ []
-        else [])
-        (range_with_len 0 told.now.linked.now.state.next)) }
+    ensures { IfOk result (λ lines. lines.items ≡ map (found_line told.now.linked.now.state)
+        (filter (is_found_told told.now query.now)
+        (numbers_of told.now.linked.now.state.entries))) }
 {
     let mut lines = Vec::new(alloc);
-    for number in 0..next_number(told.linked.kept()) {
-        push_found(alloc, &mut lines, told, query, Number::new(number))?;
+    for number in told.linked.kept().numbers(alloc)? {
+        push_found(alloc, &mut lines, told, query, number)?;
     }
     Ok(lines)
 }

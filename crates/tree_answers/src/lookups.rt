@@ -8,13 +8,6 @@ ghost use Rattle.tree_answers.specs.Finding.{is_judged_item};
 use hac_model::{Number, Query, Text};
 use kept_state::KeptState;
 
-/// The number that the next entry takes.
-pub fn next_number(kept: &KeptState) -> u64
-    ensures { result ≡ kept.now.state.next }
-{
-    kept.tree().next_number().get()
-}
-
 /// The directory of an entry.
 pub fn parent_of(kept: &KeptState, entry: Number) -> Number
     ensures { result ≡ parent_of kept.now.state entry }

@@ -1,9 +1,10 @@
-use Rattle.std.proofs.Common.{◌≡◌}
+use Rattle.std.proofs.Common.{◌≡◌, ◌++◌}
 use Rattle.std.specs.Prelude.{filter}
-use Rattle.std.specs.List.{range_with_len}
+use Rattle.hac_model.specs.Tree.Events.{apply}
 use Rattle.hac_model.specs.Tree.Touched.{touches}
+use Rattle.kept_links.specs.Items.{numbers_around}
 use Rattle.kept_links.proofs.items.touched_of_all.Given as goal
 
--- the items so far that the event touches
+-- the items so far, and those among the numbers that are left, are all
 abbrev pub invariant-loop-number : goal.invariant-loop-number
-invariant-loop-number l = l.items.items ≡ filter (touches l.kept.state l.event) (range_with_len 0 l.number)
+invariant-loop-number l = l.items.items ++ filter (touches l.kept.state l.event) l.number-iterator.rest.items ≡ filter (touches l.kept.state l.event) (numbers_around l.kept.state (apply l.kept.state l.event))

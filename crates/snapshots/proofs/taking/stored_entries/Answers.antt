@@ -1,19 +1,17 @@
-use Rattle.std.proofs.Common.{◌≡◌, ℕ, ap, flat_map, sym, ◌∙◌, arith}
-use Rattle.std.specs.List.{range_with_len}
+use Rattle.std.proofs.Common.{◌++◌, flat_map, ℕ, List, ap, ◌∙◌}
+use Rattle.std.specs.Vec.Iter.{into_iter_items}
 use Rattle.hac_model.specs.Payload.States.{snapshot_of}
-use Rattle.kept_state.proofs.StateLemmas.{same-next}
+use Rattle.hac_model.specs.declared.snapshots.StoredEntry.{StoredEntry}
 use Rattle.snapshots.specs.Taking.{stored_at}
 use Rattle.snapshots.proofs.TakingLemmas.{stored-all}
 use Rattle.snapshots.proofs.taking.stored_entries.Goals as goal
 
-pub returns : goal.returns
+pub loop-number-init : goal.loop-number-init
 unfolding snapshot_of
-returns c =
+loop-number-init c =
     let s = c.args.kept.now.state in
-    let next : s.next ≡ c.get-number-end.result =
-    same-next s c.tree.result.now.state c.tree.ensures.tree.bares ∙ sym c.next_number.ensures.number
-    ∙ sym c.get-number-end.ensures in
-    let end : c.loop-number.number ≡ s.next =
-    omega (arith, next, c.loop-number.auto.number-end, c.loop-number-test.false) in
-    c.loop-number.invariant ∙ ap (λ (n : ℕ). flat_map (stored_at s) (range_with_len 0 n)) end
+    let left : List ℕ = into_iter_items c.into_iter-number-iterator.result in
+    ap (λ (xs : List StoredEntry). xs ++ flat_map (stored_at s) left) c.new-entries.ensures.items
+    ∙ ap (λ (ns : List ℕ). flat_map (stored_at s) ns)
+    (c.into_iter-number-iterator.ensures.into_iter_gives.0 ∙ c.in_ok-number-items.ensures)
     ∙ stored-all s c.know_valid.ensures.layout.numbers

@@ -16,7 +16,7 @@ line_of_counts-requires-clause-items c = subst (λ (k : Counts). k.files ≤ k.i
 pub returns : goal.returns
 returns c =
     let counts = c.counts.ensures.counts ∙ ap (λ (seen : Seen). limits.counts seen.state) c.kept-kept.ensures in
-    let permanent = c.permanent_count-permanent.ensures ∙ ap (λ (seen : Seen). permanent_count seen.state) c.kept-kept.ensures in
-    let prohibited = c.prohibited_count-prohibited.ensures ∙ ap (λ (seen : Seen). prohibited_count seen.state) c.kept-kept.ensures in
+    let permanent = c.in_ok-permanent.ensures ∙ ap (λ (seen : Seen). permanent_count seen.state) c.kept-kept.ensures in
+    let prohibited = c.in_ok-prohibited.ensures ∙ ap (λ (seen : Seen). prohibited_count seen.state) c.kept-kept.ensures in
     c.in_ok-push.ensures.items
-    ∙ (λ i. c.new-lines.ensures.items i ++ line-counted c.args.linked.now.state c.counts.result c.transient_count-transient.result c.permanent_count-permanent.result c.prohibited_count-prohibited.result c.in_ok-line_of_counts.field-0 counts c.transient_count-transient.ensures permanent prohibited c.in_ok-line_of_counts.ensures i ∷ [])
+    ∙ (λ i. c.new-lines.ensures.items i ++ line-counted c.args.linked.now.state c.counts.result c.in_ok-transient.transient c.in_ok-permanent.permanent c.in_ok-prohibited.prohibited c.in_ok-line_of_counts.field-0 counts c.in_ok-transient.ensures permanent prohibited c.in_ok-line_of_counts.ensures i ∷ [])

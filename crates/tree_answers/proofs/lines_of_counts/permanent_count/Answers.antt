@@ -1,8 +1,8 @@
-use Rattle.std.proofs.Common.{◌∙◌}
+use Rattle.std.proofs.Common.{◌≡◌, ℕ, IfOk, subst}
 use Rattle.hac_model.specs.Tree.Links.{permanent_at, permanent_count}
 use Rattle.hac_model.specs.declared.marks.Kind.TheVariants.{Permanent}
 use Rattle.tree_answers.proofs.CountsLemmas.{are-marks, can-count, count-told}
-use Rattle.tree_answers.proofs.SumLemmas.{marks-few}
+use Rattle.tree_answers.proofs.SumLemmas.{marks-few, none-added}
 use Rattle.tree_answers.proofs.lines_of_counts.permanent_count.Goals as goal
 
 pub link_count-requires : goal.link_count-requires
@@ -11,4 +11,8 @@ link_count-requires c = can-count c.args.kept.now.state c.marks.ensures.valid Pe
 
 pub returns : goal.returns
 unfolding permanent_count
-returns c = c.link_count.ensures ∙ count-told c.args.kept.now.state c.marks.ensures.valid Permanent c.marks.result.now (permanent_at c.args.kept.now.state) c.marks.ensures.marks.permanent
+returns c =
+    let s = c.args.kept.now.state in
+    subst (λ (n : ℕ). IfOk c.link_count.result (λ count. count ≡ n))
+    (count-told s c.marks.ensures.valid Permanent c.marks.result.now (permanent_at s) c.marks.ensures.marks.permanent (none-added s))
+    c.link_count.ensures

@@ -1,5 +1,6 @@
 use Rattle.std.proofs.Common.{◌≡◌, List, ℕ, IfOk, ap, length, map, subst, sym, ◌∙◌}
 use Rattle.hac_model.specs.Run.Asks.{told_for, told_to}
+use Rattle.hac_model.specs.Run.Play.{found_line}
 use Rattle.hac_model.specs.Tree.Asking.{with_told}
 use Rattle.hac_model.specs.Tree.Valid.{IsValid}
 use Rattle.kept_state.specs.Seen.{Seen}
@@ -29,7 +30,7 @@ returns c =
     ∙ ap (λ (seen : Seen). told_to seen.state (map mount_of c.as_slice.result.now) names) c.kept-kept.ensures
     ∙ ap (λ (asked : List Question). told_to s (map mount_of asked) names) (c.as_slice.ensures.value ∙ answered)
     ∙ ap (λ (mounts : List ℕ). told_to s mounts names) (mounts-told s q) in
-    subst (λ (xs : List (List ℕ)). IfOk c.lines_of_found.result (λ lines. lines.items ≡ xs))
-    (found-told s (atom_told s c.as_slice-2.result.now c.as_slice-3.result.now) (with_told q (told_for s q names) s) q
+    subst (λ (found : List ℕ). IfOk c.lines_of_found.result (λ lines. lines.items ≡ map (found_line s) found))
+    (found-told s (atom_told s c.as_slice-2.result.now c.as_slice-3.result.now) (with_told q (told_for s q names) s) q valid.layout.numbers
     (λ term item. told-atom s valid q (told_for s q names) term item ∙ (λ i. atom_told s (sym asked i) (sym told i) term item)))
     c.lines_of_found.ensures
