@@ -58,11 +58,11 @@ use Rattle.hac_model.proofs.MountLayoutLemmas.{all-tested, cleared-mount}
 
 -- ---- numbers and runs of bytes
 
-num-length : (version : Version) (n : ℕ) → length ((num version).text n) ≤ 8
+pub num-length : (version : Version) (n : ℕ) → length ((num version).text n) ≤ 8
 num-length One n = omega arith
 num-length Two n = omega arith
 
-name-length : (name : List ℕ) → name_field.fits name ≡ true → length (name_field.text name) ≤ 256
+pub name-length : (name : List ℕ) → name_field.fits name ≡ true → length (name_field.text name) ≤ 256
 name-length name fits =
     let most : length name ≤ NAME_LIMIT = leb-true (length name) NAME_LIMIT (and_parts (nat_le (length name) NAME_LIMIT) _ fits).0 in
     omega (arith, most, length-append (to_le_bytes w8 (length name)) name)
@@ -78,7 +78,7 @@ items-length version last [] = omega arith
 items-length version last (n ∷ ns) =
     omega (arith, num-length version n, items-length version (Some n) ns, length-append ((num version).text n) (items_text (λ last. checked (num version) (rises nat_lt last)) (Some n) ns))
 
-nums-length : (version : Version) (ns : List ℕ) → length ((nums version).text ns) ≤ 4 + 8 * length ns
+pub nums-length : (version : Version) (ns : List ℕ) → length ((nums version).text ns) ≤ 4 + 8 * length ns
 nums-length version ns = omega (arith, items-length version None ns, length-append (count.text (length ns)) (items_text (λ last. checked (num version) (rises nat_lt last)) None ns))
 
 lists-length : (version : Version) (last : Option (List ℕ)) (told : List (List ℕ)) → length (items_text (λ last. nums version) last told) ≤ 4 * length told + 8 * told_size told
@@ -125,7 +125,7 @@ leaves-all (query.Not q) = leaves-all q
 leaves-all (query.And left right) = omega (arith, leaves-all left, leaves-all right)
 leaves-all (query.Or left right) = omega (arith, leaves-all left, leaves-all right)
 
-query-length : (version : Version) (q : Formula ℕ) → (query_field version).fits q ≡ true → length ((query_field version).text q) ≤ 3712
+pub query-length : (version : Version) (q : Formula ℕ) → (query_field version).fits q ≡ true → length ((query_field version).text q) ≤ 3712
 query-length version q fits =
     let asked = and_parts (is_query q) (are_nums version q) fits in
     let nested = and_parts (are_terms q && nat_le (term_count q) TERMS_LIMIT && nat_le (letter_count q) QUERY_LIMIT) (nat_le (not_count q) NESTING_LIMIT) asked.0 in
@@ -145,7 +145,7 @@ docs-items last (name ∷ names) fit =
     let own = and_parts (name_field.fits name) (rises is_before last name) parts.0 in
     omega (arith, name-length name own.0, docs-items (Some name) names parts.1, length-append (name_field.text name) (items_text (λ last. checked name_field (rises is_before last)) (Some name) names))
 
-most-docs : (version : Version) → docs_limit version ≤ 65536
+pub most-docs : (version : Version) → docs_limit version ≤ 65536
 most-docs One = omega arith
 most-docs Two = omega arith
 
@@ -219,7 +219,7 @@ redocumented-mount s mount documents h there =
 -- ---- what mounts are told for a query
 
 -- the number is that of a file or a document
-abbrev IsItem : List Entry → ℕ → Type 0
+abbrev pub IsItem : List Entry → ℕ → Type 0
 IsItem es n = (e : Entry) × (entry_at es n ≡ Some e) × (is_linkable e.body ≡ true)
 
 items-behind : (e : Entry) (es : List Entry) (bound : ℕ) (ns : List ℕ) → e.number < bound → RiseFrom bound ns → AllByRecursion (IsItem (e ∷ es)) ns → AllByRecursion (IsItem es) ns
@@ -230,7 +230,7 @@ items-behind e es bound (n ∷ ns) less rise are =
     ((are.0.0, sym (entry_at-behind e es n (λ same. omega (arith, less, above, same))) ∙ found, are.0.2), items-behind e es (n + 1) ns (omega (arith, less, above)) rise.1 are.1)
 
 -- rising numbers of items are no more than the items
-items-few : (above : ℕ) (es : List Entry) (next bound : ℕ) (ns : List ℕ) → NumbersRise above es next → RiseFrom bound ns → AllByRecursion (IsItem es) ns → length ns ≤ measured (one_if is_linkable) es
+pub items-few : (above : ℕ) (es : List Entry) (next bound : ℕ) (ns : List ℕ) → NumbersRise above es next → RiseFrom bound ns → AllByRecursion (IsItem es) ns → length ns ≤ measured (one_if is_linkable) es
 items-few above [] next bound [] rise up are = omega arith
 items-few above [] next bound (n ∷ ns) rise up are = let never : None ≡ Some are.0.0 = are.0.1 in absurd cc
 items-few above (e ∷ es) next bound [] rise up are = omega arith
@@ -358,12 +358,12 @@ text-length text fits =
     let most : length text ≤ TEXT_LIMIT = leb-true (length text) TEXT_LIMIT (and_parts (nat_le (length text) TEXT_LIMIT) true fits).0 in
     omega (arith, most, length-append (to_le_bytes w32 (length text)) text)
 
-target-length : (target : List ℕ) → target_field.fits target ≡ true → length (target_field.text target) ≤ 1026
+pub target-length : (target : List ℕ) → target_field.fits target ≡ true → length (target_field.text target) ≤ 1026
 target-length target fits =
     let most : length target ≤ TARGET_LIMIT = leb-true (length target) TARGET_LIMIT (and_parts (nat_le (length target) TARGET_LIMIT) (is_path_word target) fits).0 in
     omega (arith, most, length-append (to_le_bytes w16 (length target)) target)
 
-space-length : (space : List ℕ) → space_field.fits space ≡ true → length (space_field.text space) ≤ 33
+pub space-length : (space : List ℕ) → space_field.fits space ≡ true → length (space_field.text space) ≤ 33
 space-length space fits =
     let most : length space ≤ 32 = leb-true (length space) 32 (and_parts (nat_le (length space) 32) (is_space_name space) fits).0 in
     omega (arith, most, length-append (to_le_bytes w8 (length space)) space)
@@ -375,7 +375,7 @@ mark-length Prohibited = omega arith
 mark-length Unlinked = omega arith
 
 -- two fields, and three
-joined-length : {A B : Type 0} (f : Field A) (g : Field B) (x : A) (y : B) (m n : ℕ) → length (f.text x) ≤ m → length (g.text y) ≤ n → length ((f & g).text (x, y)) ≤ m + n
+pub joined-length : {A B : Type 0} (f : Field A) (g : Field B) (x : A) (y : B) (m n : ℕ) → length (f.text x) ≤ m → length (g.text y) ≤ n → length ((f & g).text (x, y)) ≤ m + n
 joined-length f g x y m n one two = omega (arith, one, two, length-append (f.text x) (g.text y))
 
 module _ (s : State) (h : IsValid s) where

@@ -10,4 +10,5 @@ pub mod NewLemmas
 pub mod PutLemmas
 pub mod ReadLemmas
 pub mod RoomLemmas
+pub mod StateLengthLemmas
 pub mod StoredLemmas
