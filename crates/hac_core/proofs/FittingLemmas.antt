@@ -16,19 +16,10 @@ use Rattle.hac_model.specs.declared.limits.Limit.{Limit}
 use Rattle.hac_model.specs.declared.states.State.{State}
 use Rattle.hac_model.proofs.FewLemmas.{asking-keeps, few-edited}
 use Rattle.hac_core.specs.Fitting.{passes_none}
+use Rattle.hac_model.proofs.LimitLemmas.{none-append}
 use Rattle.hac_model.proofs.VersionLemmas.{apply-version}
 
 -- Limits.
-
--- none of two lists is passed where none of either is
-none-append : (xs ys : List Limit) → is_none (first_passed (xs ++ ys)) ≡ (is_none (first_passed xs) && is_none (first_passed ys))
-unfolding first_passed
-none-append [] ys = refl
-none-append (x ∷ xs) ys =
-    elim (nat_lt x.most x.count) as (λ b. is_none (cond b (Some x.word) (first_passed (xs ++ ys))) ≡ (is_none (cond b (Some x.word) (first_passed xs)) && is_none (first_passed ys))) [
-      | true ↦ refl
-      | false ↦ none-append xs ys
-    ]
 
 pub none-told : (s : State) → passes_none s.version (counts s) ≡ is_none (passed_limit s)
 unfolding passed_limit

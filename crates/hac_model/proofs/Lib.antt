@@ -63,3 +63,9 @@ pub mod FillLemmas
 pub mod FactLemmas
 pub mod NextLemmas
 mod MarkLawLemmas
+pub mod LengthLemmas
+pub mod StateLengthLemmas
+pub mod SortedLemmas
+pub mod TermOrderLemmas
+pub mod NameOrderLemmas
+pub mod RangeLemmas

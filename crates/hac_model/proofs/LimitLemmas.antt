@@ -1,6 +1,6 @@
 -- A state that exceeds no limit is within each of them.
 use Rattle.std.proofs.Common.{◌≡◌, ℕ, ◌≤◌, arith, Bool, true, false, cond, refl, ap, ◌∙◌, List, [], ◌∷◌, ◌++◌}
-use Rattle.std.specs.Prelude.{nat_lt, Option, Some, None}
+use Rattle.std.specs.Prelude.{◌&&◌, nat_lt, Option, Some, None, is_none}
 use Rattle.hac_model.specs.Tree.Limits.{answer_limits, are_paths_short, counts, directory_count, first_passed, item_count, layout_limits, long_paths, mount_count, passed_limit, semantic_count, symlink_count, text_size}
 use Rattle.hac_model.specs.declared.limits.Limit.{Limit}
 use Rattle.hac_model.specs.declared.limits.TheConstants.{TEXTS_LIMIT, DIRS_LIMIT, SEMANTICS_LIMIT, MOUNTS_LIMIT, SYMLINKS_LIMIT, ITEMS_LIMIT, NUMBERS_LIMIT}
@@ -115,3 +115,13 @@ passed-append (x ∷ xs) ys h k = let parts = first-behind x xs h in first-befor
 pub passed-both : (s : State) → first_passed (layout_limits s.version (counts s)) ≡ None → first_passed (answer_limits s.version (counts s)) ≡ None → passed_limit s ≡ None
 unfolding passed_limit
 passed-both s h k = passed-append (layout_limits s.version (counts s)) (answer_limits s.version (counts s)) h k
+
+-- none of two lists is passed where none of either is
+pub none-append : (xs ys : List Limit) → is_none (first_passed (xs ++ ys)) ≡ (is_none (first_passed xs) && is_none (first_passed ys))
+unfolding first_passed
+none-append [] ys = refl
+none-append (x ∷ xs) ys =
+    elim (nat_lt x.most x.count) as (λ b. is_none (cond b (Some x.word) (first_passed (xs ++ ys))) ≡ (is_none (cond b (Some x.word) (first_passed xs)) && is_none (first_passed ys))) [
+      | true ↦ refl
+      | false ↦ none-append xs ys
+    ]

@@ -1,9 +1,10 @@
 -- Theorems over the definitions, each proved as the contract of a function of the module `laws`.
-use Rattle.std.specs.Prelude.{true, false, ◌≡◌, ⊤, ℕ, zero, suc, ◌≤◌, ◌+◌, ◌||◌, length, nat_lt, List, [], ◌∷◌, ◌++◌, map, None, Some, Ok, IsTrue, is_some, codes, replicate}
+use Rattle.std.specs.Prelude.{true, false, ◌≡◌, ⊤, ℕ, zero, suc, ◌<◌, ◌≤◌, ◌+◌, ◌/◌, ◌^◌, ◌||◌, length, drop, take, nat_lt, List, [], ◌∷◌, ◌++◌, map, None, Some, Ok, IsTrue, is_some, codes, replicate}
 use Rattle.std.specs.List.{AllByRecursion, flat_map, position_or_len}
 use Rattle.hac_model.specs.Tree.Bare.{bare}
 use Rattle.hac_model.specs.Bytes.{is_line_end}
 use Rattle.hac_model.specs.Script.CommandLine.{options}
+use Rattle.hac_model.specs.Script.Generator.{drawn_lines, next_drawn, plain_lines, semantic_lines}
 use Rattle.hac_model.specs.Tree.Depends.{IsAcyclic}
 use Rattle.hac_model.specs.Tree.Events.{accepted, apply, apply_all, dirty, renamed}
 use Rattle.hac_model.specs.Tree.Facts.{facts_after, facts_of}
@@ -18,10 +19,11 @@ use Rattle.hac_model.specs.Run.Refusals.{cause, events_of, led_to, marks}
 use Rattle.hac_model.specs.Spaces.Answering.{AreAnswersTo, AreRisingNames}
 use Rattle.hac_model.specs.Spaces.Catalogue.{names}
 use Rattle.hac_model.specs.declared.spaces.Answers.{Answers}
+use Rattle.hac_model.specs.Run.Checkpoints.{state_text}
 use Rattle.hac_model.specs.Run.Resolving.{resolve}
 use Rattle.hac_model.specs.Script.{due, whole}
 use Rattle.hac_model.specs.Tree.Sessions.{is_stored, sessionless, sessions_after, stored}
-use Rattle.hac_model.specs.Payload.Payloads.{is_spellable}
+use Rattle.hac_model.specs.Payload.Payloads.{event_text, is_spellable}
 use Rattle.hac_model.specs.Payload.States.{is_spellable_snapshot, snapshot_of}
 use Rattle.hac_model.specs.Run.Play.{Given, Setting, all_events, end_after, given_behind, left_by, new_setting, no_answers, nothing_given, play, ticking, turns, turns_text}
 use Rattle.hac_model.specs.Script.Texts.{escaped_text, text_of}
@@ -386,32 +388,36 @@ FirstEnd = (left_by new_setting (play nothing_given new_setting (lines_text (cod
 
 -- a new store, an existing one, one whose name begins like an option, and both options, before the name or behind it;
 -- then spaces: the first name is the store's whatever it looks like, a file may hold `=`, options stand between spaces
--- too, behind `--` each word is a name, and there may be sixteen
+-- too, behind `--` each word is a name, and there may be sixteen; and a script is drawn from any number of eight bytes
 abbrev pub FirstCommandLines : Type 0
 FirstCommandLines =
-    (options (codes "--new" ∷ codes "notes" ∷ []) ≡ Some (record { fresh = true; tick = 0; store = codes "notes"; spaces = [] }))
-    × (options (codes "notes" ∷ codes "--new" ∷ []) ≡ Some (record { fresh = true; tick = 0; store = codes "notes"; spaces = [] }))
-    × (options (codes "-" ∷ []) ≡ Some (record { fresh = false; tick = 0; store = codes "-"; spaces = [] }))
-    × (options (codes "--" ∷ codes "--new" ∷ []) ≡ Some (record { fresh = false; tick = 0; store = codes "--new"; spaces = [] }))
-    × (options (codes "--tick" ∷ codes "3" ∷ codes "notes" ∷ []) ≡ Some (record { fresh = false; tick = 3; store = codes "notes"; spaces = [] }))
-    × (options (codes "--tick=3" ∷ codes "notes" ∷ []) ≡ Some (record { fresh = false; tick = 3; store = codes "notes"; spaces = [] }))
-    × (options (codes "notes" ∷ codes "--tick" ∷ codes "0" ∷ codes "--new" ∷ []) ≡ Some (record { fresh = true; tick = 0; store = codes "notes"; spaces = [] }))
-    × (options (codes "--tick" ∷ codes "65536" ∷ codes "--" ∷ codes "--tick" ∷ []) ≡ Some (record { fresh = false; tick = 65536; store = codes "--tick"; spaces = [] }))
-    × (options (codes "a=b" ∷ []) ≡ Some (record { fresh = false; tick = 0; store = codes "a=b"; spaces = [] }))
-    × (options (codes "S" ∷ codes "a=b=c" ∷ []) ≡ Some (record { fresh = false; tick = 0; store = codes "S"; spaces = (codes "a", codes "b=c") ∷ [] }))
+    (options (codes "--new" ∷ codes "notes" ∷ []) ≡ Some (record { fresh = true; tick = 0; make = None; store = codes "notes"; spaces = [] }))
+    × (options (codes "notes" ∷ codes "--new" ∷ []) ≡ Some (record { fresh = true; tick = 0; make = None; store = codes "notes"; spaces = [] }))
+    × (options (codes "-" ∷ []) ≡ Some (record { fresh = false; tick = 0; make = None; store = codes "-"; spaces = [] }))
+    × (options (codes "--" ∷ codes "--new" ∷ []) ≡ Some (record { fresh = false; tick = 0; make = None; store = codes "--new"; spaces = [] }))
+    × (options (codes "--tick" ∷ codes "3" ∷ codes "notes" ∷ []) ≡ Some (record { fresh = false; tick = 3; make = None; store = codes "notes"; spaces = [] }))
+    × (options (codes "--tick=3" ∷ codes "notes" ∷ []) ≡ Some (record { fresh = false; tick = 3; make = None; store = codes "notes"; spaces = [] }))
+    × (options (codes "notes" ∷ codes "--tick" ∷ codes "0" ∷ codes "--new" ∷ []) ≡ Some (record { fresh = true; tick = 0; make = None; store = codes "notes"; spaces = [] }))
+    × (options (codes "--tick" ∷ codes "65536" ∷ codes "--" ∷ codes "--tick" ∷ []) ≡ Some (record { fresh = false; tick = 65536; make = None; store = codes "--tick"; spaces = [] }))
+    × (options (codes "a=b" ∷ []) ≡ Some (record { fresh = false; tick = 0; make = None; store = codes "a=b"; spaces = [] }))
+    × (options (codes "S" ∷ codes "a=b=c" ∷ []) ≡ Some (record { fresh = false; tick = 0; make = None; store = codes "S"; spaces = (codes "a", codes "b=c") ∷ [] }))
     × (options (codes "S" ∷ codes "b=f" ∷ codes "--new" ∷ codes "a=f" ∷ codes "--tick=1" ∷ [])
-    ≡ Some (record { fresh = true; tick = 1; store = codes "S"; spaces = (codes "b", codes "f") ∷ (codes "a", codes "f") ∷ [] }))
-    × (options (codes "S" ∷ codes "--" ∷ codes "--new=-" ∷ []) ≡ Some (record { fresh = false; tick = 0; store = codes "S"; spaces = (codes "--new", codes "-") ∷ [] }))
+    ≡ Some (record { fresh = true; tick = 1; make = None; store = codes "S"; spaces = (codes "b", codes "f") ∷ (codes "a", codes "f") ∷ [] }))
+    × (options (codes "S" ∷ codes "--" ∷ codes "--new=-" ∷ []) ≡ Some (record { fresh = false; tick = 0; make = None; store = codes "S"; spaces = (codes "--new", codes "-") ∷ [] }))
     × (options (codes "S" ∷ map (λ letter. letter ∷ codes "=f") (codes "abcdefghijklmnop"))
-    ≡ Some (record { fresh = false; tick = 0; store = codes "S"; spaces = map (λ letter. (letter ∷ [], codes "f")) (codes "abcdefghijklmnop") }))
+    ≡ Some (record { fresh = false; tick = 0; make = None; store = codes "S"; spaces = map (λ letter. (letter ∷ [], codes "f")) (codes "abcdefghijklmnop") }))
+    × (options (codes "--new" ∷ codes "--make" ∷ codes "7" ∷ codes "S" ∷ []) ≡ Some (record { fresh = true; tick = 0; make = Some 7; store = codes "S"; spaces = [] }))
+    × (options (codes "S" ∷ codes "--make=18446744073709551615" ∷ codes "--tick=3" ∷ [])
+    ≡ Some (record { fresh = false; tick = 3; make = Some 18446744073709551615; store = codes "S"; spaces = [] }))
 
 -- faulty command lines: no word, an empty name, a second name that is no space, `--new` twice or with a value, and an
--- unknown option; `--tick` with what is no such number, without a value or with one that begins with `-`, and twice; and
--- spaces without a file, without a name, with a name that no space has, twice with one name, and seventeen of them
+-- unknown option; `--tick` with what is no such number, without a value or with one that begins with `-`, and twice;
+-- spaces without a file, without a name, with a name that no space has, twice with one name, and seventeen of them; and
+-- `--make` with a greater number, with a zero in front, without a value or with one that begins with `-`, and twice
 abbrev pub NoCommandLines : Type 0
 NoCommandLines =
     (options [] ≡ None) × (options ([] ∷ []) ≡ None) × (options (codes "a" ∷ codes "b" ∷ []) ≡ None)
-    × (options (codes "--new" ∷ codes "--new" ∷ codes "a" ∷ []) ≡ None) × (options (codes "--make=1" ∷ codes "a" ∷ []) ≡ None)
+    × (options (codes "--new" ∷ codes "--new" ∷ codes "a" ∷ []) ≡ None) × (options (codes "--mak=1" ∷ codes "a" ∷ []) ≡ None)
     × (options (codes "--new=" ∷ codes "a" ∷ []) ≡ None) × (options (codes "--new=x" ∷ codes "a" ∷ []) ≡ None)
     × (options (codes "--tick" ∷ codes "x" ∷ codes "a" ∷ []) ≡ None) × (options (codes "--tick=" ∷ codes "a" ∷ []) ≡ None)
     × (options (codes "--tick" ∷ codes "65537" ∷ codes "a" ∷ []) ≡ None) × (options (codes "--tick" ∷ codes "03" ∷ codes "a" ∷ []) ≡ None)
@@ -421,3 +427,30 @@ NoCommandLines =
     × (options ([] ∷ codes "a=f" ∷ []) ≡ None) × (options (codes "S" ∷ codes "a=" ∷ []) ≡ None) × (options (codes "S" ∷ codes "=f" ∷ []) ≡ None)
     × (options (codes "S" ∷ codes "a!=f" ∷ []) ≡ None) × (options (codes "S" ∷ codes "a=1" ∷ codes "b=1" ∷ codes "a=2" ∷ []) ≡ None)
     × (options (codes "S" ∷ map (λ letter. letter ∷ codes "=f") (codes "abcdefghijklmnopq")) ≡ None)
+    × (options (codes "--make=18446744073709551616" ∷ codes "a" ∷ []) ≡ None) × (options (codes "--make=07" ∷ codes "a" ∷ []) ≡ None)
+    × (options (codes "a" ∷ codes "--make" ∷ []) ≡ None) × (options (codes "--make" ∷ codes "-7" ∷ codes "a" ∷ []) ≡ None)
+    × (options (codes "--make=7" ∷ codes "--make=7" ∷ codes "a" ∷ []) ≡ None)
+
+-- of the numbers behind 7 the first is 9098160460397411210, whose high bits are 1059165278: so the first line that is
+-- drawn is an `sln`
+abbrev pub FirstDrawn : Type 0
+FirstDrawn =
+    (next_drawn 7 ≡ 9098160460397411210) × (next_drawn 7 / (2 ^ 33) ≡ 1059165278)
+    × (drawn_lines 1 7 ≡ codes "sln /d1/f33 /s3" ∷ [])
+
+-- the directories that a drawn script begins with
+abbrev pub FirstMade : Type 0
+FirstMade =
+    (take 2 plain_lines ≡ codes "mkdir /d0" ∷ codes "mkdir /d1" ∷ []) × (drop 9 plain_lines ≡ codes "mkdir /d9" ∷ [])
+    × (take 2 semantic_lines ≡ codes "smkdir /s0 w0" ∷ codes "smkdir /s1 {/s0} AND NOT w11 OR w1" ∷ [])
+    × (drop 9 semantic_lines ≡ codes "smkdir /s9 {/s8} AND NOT w19 OR w9" ∷ [])
+
+-- the payload of an event that can happen and is stored has so few bytes that four say how many
+abbrev pub EventsAreShort : Type 0
+EventsAreShort =
+    (s : State) (event : Event) → IsValid s → IsTrue (is_stored event) → IsTrue (accepted s event) →
+    length (event_text s.version event) < 2 ^ 32
+
+-- so has the one in which a checkpoint writes a valid state
+abbrev pub StatesAreShort : Type 0
+StatesAreShort = (s : State) → IsValid s → length (state_text (raised s)) < 2 ^ 32

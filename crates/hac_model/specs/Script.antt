@@ -8,6 +8,7 @@ pub mod Puts
 pub mod Printed
 pub mod Texts
 pub mod CommandLine
+pub mod Generator
 pub mod SpaceNames
 pub mod CommandTexts
 use Rattle.std.specs.Prelude.{ℕ, zero, suc, Bool, ◌+◌, ◌&&◌, if◌then◌else◌, nat_le, nat_lt, List, [], ◌++◌, length, take, drop}

@@ -16,9 +16,10 @@ ghost use Rattle.hac_model.specs.Laws.{QuotedWordIsRead, QuotesAreOneSpelling, F
 ghost use Rattle.hac_model.specs.FirstMounts.{AttachedMounts, FalseIsNotTold, FirstMounts};
 ghost use Rattle.hac_model.specs.FirstMounts.{LibraryIsValid};
 ghost use Rattle.hac_model.specs.FirstMounts.{MountsCome, MountsGo, MountsRefuse, SyncsKeepNumbers};
-ghost use Rattle.hac_model.specs.Laws.{MovedListings, LentListings, FirstLinks, FirstSteps};
+ghost use Rattle.hac_model.specs.Laws.{FirstDrawn, FirstMade, MovedListings, LentListings, FirstLinks, FirstSteps};
 ghost use Rattle.hac_model.specs.Laws.{FirstEnd, LastNumbers, NoRoot, ValidityIsTested};
-ghost use Rattle.hac_model.specs.Laws.{RaisedIsValid, RaisedLinks};
+ghost use Rattle.hac_model.specs.Laws.{EventsAreShort, RaisedIsValid, RaisedLinks};
+ghost use Rattle.hac_model.specs.Laws.{StatesAreShort};
 
 /// Two joined scripts are played one after the other, where the first one consists of whole lines,
 /// each with its end and the bytes that belong to it. No line looks further ahead, and none looks
@@ -105,6 +106,13 @@ pub fn valid_states_are_spelled()
 /// Where sessions stand is never stored.
 pub fn sessions_are_not_stored()
     ensures { SessionsAreNotStored }
+{}
+
+/// Four bytes can say how long each payload is that is ever written: that of an event that can
+/// happen, and that of a whole valid state.
+pub fn payloads_are_short()
+    ensures events { EventsAreShort }
+    ensures states { StatesAreShort }
 {}
 
 /// What a store of version 1 may hold, one of version 2 may hold too, and it shows the same links.
@@ -226,4 +234,10 @@ pub fn stores_end()
 pub fn first_command_lines()
     ensures some { FirstCommandLines }
     ensures none { NoCommandLines }
+{}
+
+/// Worked examples of scripts that are drawn from a number.
+pub fn first_drawn_lines()
+    ensures made { FirstMade }
+    ensures drawn { FirstDrawn }
 {}

@@ -3,12 +3,10 @@ pub mod BeginLemmas
 pub mod CheckpointLemmas
 pub mod CreateLemmas
 pub mod HeldLemmas
-pub mod LengthLemmas
 pub mod LiveLemmas
 pub mod LogLemmas
 pub mod NewLemmas
 pub mod PutLemmas
 pub mod ReadLemmas
 pub mod RoomLemmas
-pub mod StateLengthLemmas
 pub mod StoredLemmas

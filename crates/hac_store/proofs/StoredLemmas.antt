@@ -18,7 +18,7 @@ use Rattle.hac_model.proofs.AcyclicLemmas.{apply-valid}
 use Rattle.hac_model.proofs.SpelledLemmas.{accepted-spelled, not-stored}
 use Rattle.hac_model.proofs.VersionLemmas.{apply-version}
 use Rattle.hac_store.specs.Stores.{AreForStore}
-use Rattle.hac_store.proofs.LengthLemmas.{text-short}
+use Rattle.hac_model.proofs.LengthLemmas.{text-short}
 
 -- each event can happen to what those before it lead to, has a spelling in the version, and a payload that a record may
 -- have

@@ -3,11 +3,8 @@ use Rattle.std.specs.Prelude.{◌≡◌, ◌<◌, ◌+◌, ◌-◌, ◌^◌, ℕ
 use Rattle.hac_disk.specs.Images.{overlaid}
 use Rattle.hac_journal.specs.Records.{log_of}
 use Rattle.hac_model.specs.Tree.Events.{accepted}
-use Rattle.hac_model.specs.Tree.{raised}
 use Rattle.hac_model.specs.Tree.Sessions.{is_stored}
-use Rattle.hac_model.specs.Tree.Valid.{IsValid}
 use Rattle.hac_model.specs.Payload.Payloads.{event_text}
-use Rattle.hac_model.specs.Run.Checkpoints.{free_place, next_place, state_text}
 use Rattle.hac_model.specs.Run.Play.{Setting, after_events, have_room}
 use Rattle.hac_model.specs.declared.events.Event.{Event}
 use Rattle.hac_model.specs.declared.events.Event.TheVariants.{Step}
@@ -32,22 +29,3 @@ StepsHaveRoom =
 -- no file holds a session: each run begins with all of them in the root
 abbrev pub FilesHoldNoSession : Type 0
 FilesHoldNoSession = (file : List ℕ) (setting : Setting) → IsHeldAs file setting → setting.state.sessions ≡ []
-
--- the record of an event that can happen and is stored has so few bytes that four say how many
-abbrev pub EventsAreShort : Type 0
-EventsAreShort =
-    (s : State) (event : Event) → IsValid s → IsTrue (is_stored event) → IsTrue (accepted s event) →
-    length (event_text s.version event) < 2 ^ 32
-
--- so does the one in which a checkpoint writes a valid state
-abbrev pub StatesAreShort : Type 0
-StatesAreShort = (s : State) → IsValid s → length (state_text (raised s)) < 2 ^ 32
-
--- so a checkpoint has no place just where no generation is left, or where its area fits neither before the live one nor
--- behind it
-abbrev pub CheckpointsFit : Type 0
-CheckpointsFit =
-    (setting : Setting) → IsValid setting.state →
-    next_place setting ≡ (if nat_lt setting.generation (2 ^ 64 - 1)
-    then free_place setting (length (state_text (raised setting.state)) + 6)
-    else None)

@@ -23,6 +23,7 @@ use Rattle.hac_model.proofs.ChangeLemmas.{entry_at-changed, entry_at-none, entry
 use Rattle.hac_model.proofs.MapLemmas.{entry_at-mapped}
 use Rattle.hac_model.proofs.MarkLemmas.{has-filter}
 use Rattle.hac_model.proofs.MountLayoutLemmas.{entry_at-documents}
+use Rattle.hac_model.proofs.RangeLemmas.{range-ends, range-has, range-joined, range-more, range-rises}
 use Rattle.hac_model.proofs.TreeLemmas.{entry_at-next}
 use Rattle.file_tree.specs.Answers.{numbers_of}
 use Rattle.file_tree.proofs.LiveLemmas.{numbers-has, numbers-rise}
@@ -30,41 +31,7 @@ use Rattle.file_tree.proofs.RisingLemmas.{rise-lower, rising-one}
 use Rattle.reeval.proofs.EventsLeave.{event-owes}
 use Rattle.kept_links.specs.Items.{is_other, is_passed_over, numbers_around, others, reach_of}
 use Rattle.kept_links.specs.declared.items.Reach.TheVariants.{Nothing, One, Any}
-use Rattle.kept_links.proofs.ItemLemmas.{next-grows, owed-item, range-more}
-
--- Numbers that follow one another.
-
-range-rises : (a n : ℕ) → RiseFrom a (range_with_len a n)
-range-rises a zero = tt
-range-rises a (suc n) = (omega arith, range-rises (a + 1) n)
-
-range-has : (a n k : ℕ) → a ≤ k → k < a + n → has (range_with_len a n) k ≡ true
-range-has a zero k low high = absurd (omega (arith, low, high))
-range-has a (suc n) k low high = elim (cases_lt a k) as (λ _. has (range_with_len a (suc n)) k ≡ true) [
-  | inl less ↦ ap (λ (b : Bool). (a == k) || b) (range-has (a + 1) n k (omega (arith, less)) (omega (arith, high))) ∙ or-true (a == k)
-  | inr none ↦ ap (λ (b : Bool). b || has (range_with_len (a + 1) n) k) (eq-eqb a k (omega (arith, low, none)))
-]
-
-range-ends : (a n k : ℕ) → a + n ≤ k → has (range_with_len a n) k ≡ false
-range-ends a zero k high = refl
-range-ends a (suc n) k high =
-    ap (λ (b : Bool). b || has (range_with_len (a + 1) n) k) (ne_eqb a k (λ same. omega (arith, high, same)))
-    ∙ range-ends (a + 1) n k (omega (arith, high))
-
-range-joined : (a m n : ℕ) → range_with_len a m ++ range_with_len (a + m) n ≡ range_with_len a (m + n)
-range-joined a zero n = λ i. range_with_len (from i) (count i)
-  where
-    from : a + zero ≡ a
-    from = omega arith
-
-    count : n ≡ zero + n
-    count = omega arith
-range-joined a (suc m) n =
-    let start : a + suc m ≡ a + 1 + m = omega arith in
-    let count : suc (m + n) ≡ suc m + n = omega arith in
-    ap (λ (k : ℕ). range_with_len a (suc m) ++ range_with_len k n) start
-    ∙ ap (λ (ns : List ℕ). a ∷ ns) (range-joined (a + 1) m n)
-    ∙ ap (range_with_len a) count
+use Rattle.kept_links.proofs.ItemLemmas.{next-grows, owed-item}
 
 -- what passes rises too
 passing-rises : (p : ℕ → Bool) (bound : ℕ) (ns : List ℕ) → RiseFrom bound ns → RiseFrom bound (filter p ns)

@@ -14,6 +14,7 @@ use Rattle.hac_model.specs.declared.events.Event.{Event}
 use Rattle.hac_model.specs.declared.events.Event.TheVariants.{Step}
 use Rattle.hac_model.specs.declared.states.Entry.{Entry}
 use Rattle.hac_model.specs.declared.states.State.{State}
+use Rattle.hac_model.proofs.RangeLemmas.{in-range, range-in}
 use Rattle.hac_model.proofs.TreeLemmas.{entry_at-next}
 use Rattle.hac_model.proofs.LayoutLemmas.{apply-layout}
 use Rattle.dep_graph.specs.Searches.{EachOnce}
@@ -21,23 +22,6 @@ use Rattle.reeval.proofs.EventLemmas.{Owes, is_seen, items-seen}
 use Rattle.kept_links.specs.Items.{is_other, is_passed_over, others}
 
 -- Numbers that follow one another.
-
--- with one more
-pub range-more : (a n : ℕ) → range_with_len a (suc n) ≡ range_with_len a n ++ (a + n) ∷ []
-range-more a zero = let same : a ≡ a + zero = omega arith in ap (λ (k : ℕ). k ∷ []) same
-range-more a (suc n) = let same : a + 1 + n ≡ a + suc n = omega arith in ap (λ (rest : List ℕ). a ∷ rest) (range-more (a + 1) n ∙ ap (λ (k : ℕ). range_with_len (a + 1) n ++ k ∷ []) same)
-
-in-range : (a n k : ℕ) → Among (range_with_len a n) k → a ≤ k
-in-range a zero k among = absurd among
-in-range a (suc n) k (inl same) = omega (arith, same)
-in-range a (suc n) k (inr more) = let next = in-range (a + 1) n k more in omega (arith, next)
-
-range-in : (a n k : ℕ) → a ≤ k → k < a + n → Among (range_with_len a n) k
-range-in a zero k low high = absurd (omega (arith, low, high))
-range-in a (suc n) k low high = elim (cases_lt a k) as (λ _. Among (range_with_len a (suc n)) k) [
-  | inl less ↦ inr (range-in (a + 1) n k (omega (arith, less)) (omega (arith, high)))
-  | inr none ↦ inl (omega (arith, low, none))
-]
 
 range-once : (a n : ℕ) → EachOnce (range_with_len a n)
 range-once a zero = tt

@@ -24,7 +24,7 @@ use Rattle.kept_state.specs.Gains.{answers_then, asked_at}
 use Rattle.kept_state.specs.Parts.{IsLinked, facts_kept, state_of}
 use Rattle.kept_state.specs.declared.parts.Parts.{Parts}
 use Rattle.kept_state.proofs.AnswerLemmas.{kept-answers, mountless}
-use Rattle.kept_state.proofs.ListLemmas.{drop-end}
+use Rattle.hac_model.proofs.SortedLemmas.{drop-end}
 use Rattle.kept_state.proofs.StateLemmas.{kept-bares, same-mount}
 use Rattle.kept_state.proofs.UseLemmas.{rest-all, rest-none, rest_from}
 

@@ -5,9 +5,7 @@ pub mod LenderLemmas
 pub mod MountPutLemmas
 pub mod StateLemmas
 pub mod AnswerLemmas
-pub mod ListLemmas
 pub mod OrderLemmas
-pub mod NumberLemmas
 pub mod UseLemmas
 pub mod GainLemmas
 pub mod ToldLemmas

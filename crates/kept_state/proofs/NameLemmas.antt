@@ -10,7 +10,7 @@ use Rattle.hac_model.specs.Tree.Listing.{is_before}
 use Rattle.hac_model.specs.Tree.Mounting.{do_names_rise, is_among}
 use Rattle.hac_model.proofs.MountLayoutLemmas.{all-tested}
 use Rattle.file_tree.proofs.SearchLemmas.{before-differs, before-other, before-trans}
-use Rattle.kept_state.proofs.ListLemmas.{Falls, all-weaker, get-inside, get-outside}
+use Rattle.hac_model.proofs.SortedLemmas.{Falls, all-weaker, get-inside, get-outside}
 
 module _ (name : List ℕ) where
   abbrev is_lower : List ℕ → Bool

@@ -19,8 +19,8 @@ use Rattle.hac_model.specs.declared.terms.Term.{Term}
 use Rattle.hac_model.proofs.TermLemmas.{TermsChain, order-chain, same-own}
 use Rattle.hac_model.proofs.TreeLemmas.{entry_at-low}
 use Rattle.kept_state.specs.Answers.{AreTermsInOrder}
-use Rattle.kept_state.proofs.ListLemmas.{Falls, all-weaker, get-inside, get-outside}
-use Rattle.kept_state.proofs.OrderLemmas.{before-differs, term-trans}
+use Rattle.hac_model.proofs.SortedLemmas.{Falls, all-weaker, get-inside, get-outside}
+use Rattle.hac_model.proofs.TermOrderLemmas.{before-differs, term-trans}
 
 -- Terms in order.
 

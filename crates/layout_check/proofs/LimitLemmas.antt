@@ -10,7 +10,7 @@ use Rattle.hac_model.specs.declared.limits.TheConstants.{PATH_LIMIT, TEXTS_LIMIT
 use Rattle.hac_model.specs.declared.states.Entry.{Entry}
 use Rattle.hac_model.specs.declared.states.State.{State}
 use Rattle.hac_model.specs.Tree.Valid.{IsLayout}
-use Rattle.hac_model.proofs.LimitLemmas.{limits-within}
+use Rattle.hac_model.proofs.LimitLemmas.{limits-within, none-append}
 use Rattle.layout_check.specs.Bounded.{bounded}
 
 pub lineage-steps : (es : List Entry) (n : ℕ) → ancestors (PATH_LIMIT + 1) es n ≡ lineage es n
@@ -20,19 +20,6 @@ lineage-steps es n = refl
 -- none of the limits is exceeded
 abbrev pub are_kept : List Limit → Bool
 are_kept limits = is_none (first_passed limits)
-
-none-append :
-    (xs ys : List Limit) →
-    is_none (first_passed (xs ++ ys)) ≡ (is_none (first_passed xs) && is_none (first_passed ys))
-unfolding first_passed
-none-append [] ys = refl
-none-append (x ∷ xs) ys =
-    elim (nat_lt x.most x.count) as (λ b.
-    is_none (cond b (Some x.word) (first_passed (xs ++ ys)))
-    ≡ (is_none (cond b (Some x.word) (first_passed xs)) && is_none (first_passed ys))) [
-      | true ↦ refl
-      | false ↦ none-append xs ys
-    ]
 
 -- the counts, but for bytes that no word counts
 abbrev pub bounded_counts : State → Counts

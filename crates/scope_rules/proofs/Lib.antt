@@ -2,6 +2,5 @@ pub mod AfterLemmas
 pub mod BelowLemmas
 pub mod CarryLemmas
 pub mod EntryLemmas
-pub mod NamesLemmas
 pub mod ProvideLemmas
 pub mod ScopeLemmas

@@ -15,7 +15,7 @@ use Rattle.kept_state.specs.AnswersKept.{list_at}
 use Rattle.kept_state.specs.Readers.{ArePartsOf}
 use Rattle.kept_state.proofs.AnswerLemmas.{answers-fact}
 use Rattle.kept_state.proofs.KeptLemmas.{permanent-fact}
-use Rattle.kept_state.proofs.ListLemmas.{all-weaker}
+use Rattle.hac_model.proofs.SortedLemmas.{all-weaker}
 use Rattle.kept_state.proofs.ReaderLemmas.{prohibited-fact}
 use Rattle.link_kinds.specs.Kinds.{Lists}
 use Rattle.snapshots.specs.Loading.{AreBeside, AreSoundIn, AreSoundMarks, asks}

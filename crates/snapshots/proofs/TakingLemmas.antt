@@ -13,7 +13,7 @@ use Rattle.hac_model.specs.declared.states.State.{State}
 use Rattle.hac_model.proofs.TreeLemmas.{all-entries, entry_at-number}
 use Rattle.file_tree.specs.Answers.{numbers_of}
 use Rattle.file_tree.proofs.OrderLemmas.{children-found}
-use Rattle.kept_state.proofs.ListLemmas.{all-weaker}
+use Rattle.hac_model.proofs.SortedLemmas.{all-weaker}
 use Rattle.snapshots.specs.Taking.{document_at, documents_of, stored_at}
 
 -- ---- all entries

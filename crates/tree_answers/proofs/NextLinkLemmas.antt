@@ -16,7 +16,8 @@ use Rattle.file_tree.proofs.RisingLemmas.{has-low}
 use Rattle.set_pool.specs.Rising.{first_from}
 use Rattle.tree_answers.specs.NextLinks.{lesser, next_linked}
 use Rattle.tree_answers.proofs.CountsLemmas.{are-marks, item-below, markable-below}
-use Rattle.tree_answers.proofs.RangeLemmas.{flat_next, range-rises}
+use Rattle.tree_answers.proofs.RangeLemmas.{flat_next}
+use Rattle.hac_model.proofs.RangeLemmas.{range-rises}
 
 -- the number comes before another, if there is one
 abbrev IsBefore : ℕ → Option ℕ → Type 0

@@ -14,6 +14,7 @@ use Rattle.hac_model.specs.declared.states.Entry.{Entry}
 use Rattle.hac_model.proofs.ChangeLemmas.{or-right}
 use Rattle.hac_model.proofs.LiveLemmas.{IsEntry}
 use Rattle.hac_model.proofs.MarkLemmas.{has-filter, rise-filter}
+use Rattle.hac_model.proofs.RangeLemmas.{range-has, range-next, range-rises}
 use Rattle.hac_model.proofs.TreeLemmas.{entry_at-below, entry_at-cases}
 use Rattle.file_tree.specs.Answers.{numbers_of}
 use Rattle.file_tree.proofs.LiveLemmas.{numbers-has, numbers-rise}
@@ -21,34 +22,12 @@ use Rattle.file_tree.proofs.RisingLemmas.{rising-one}
 
 -- Numbers one after the other.
 
--- the numbers from any on, with one more
-range-more : (a n : ℕ) → range_with_len a (suc n) ≡ range_with_len a n ++ (a + n) ∷ []
-range-more a zero = let same : a ≡ a + zero = omega arith in ap (λ (k : ℕ). k ∷ []) same
-range-more a (suc n) = let same : a + 1 + n ≡ a + suc n = omega arith in ap (λ (rest : List ℕ). a ∷ rest) (range-more (a + 1) n ∙ ap (λ (k : ℕ). range_with_len (a + 1) n ++ k ∷ []) same)
-
--- the numbers from 0 on, with one more
-range-next : (n : ℕ) → range_with_len 0 (n + 1) ≡ range_with_len 0 n ++ n ∷ []
-range-next n = let one : n + 1 ≡ suc n = omega arith in let last : 0 + n ≡ n = omega arith in ap (range_with_len 0) one ∙ range-more 0 n ∙ ap (λ (k : ℕ). range_with_len 0 n ++ k ∷ []) last
-
 -- what is made of one number more comes behind
 pub flat_next : {A : Type 0} (f : ℕ → List A) (n : ℕ) → flat_map f (range_with_len 0 (n + 1)) ≡ flat_map f (range_with_len 0 n) ++ f n
 flat_next f n =
     ap (flat_map f) (range-next n)
     ∙ flat_map-append f (range_with_len 0 n) (n ∷ [])
     ∙ ap (λ xs. flat_map f (range_with_len 0 n) ++ xs) (flat_map-cons f n [] ∙ append-nil (f n))
-
--- they rise
-pub range-rises : (low count : ℕ) → RiseFrom low (range_with_len low count)
-range-rises low zero = tt
-range-rises low (suc count) = (omega arith, range-rises (low + 1) count)
-
--- a number from the first up to the last is one of them
-range-has : (low count k : ℕ) → low ≤ k → k < low + count → has (range_with_len low count) k ≡ true
-range-has low zero k more less = absurd (omega arith)
-range-has low (suc count) k more less = elim (cases_eq low k) [
-  | inl same ↦ ap (λ (b : Bool). b || has (range_with_len (low + 1) count) k) (eq-eqb low k same)
-  | inr other ↦ or-right (low == k) (has (range_with_len (low + 1) count) k) (range-has (low + 1) count k (omega arith) (omega arith))
-]
 
 -- Those of entries among all numbers below the next.
 

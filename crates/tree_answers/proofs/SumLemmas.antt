@@ -18,7 +18,7 @@ use Rattle.hac_model.proofs.LiveLemmas.{all-few, live-few, tested-entry}
 use Rattle.hac_model.proofs.MarkLemmas.{all-passes, rise-filter}
 use Rattle.hac_model.proofs.TreeLemmas.{Lives, directory-lives}
 use Rattle.file_tree.specs.Answers.{numbers_of}
-use Rattle.tree_answers.proofs.RangeLemmas.{range-rises}
+use Rattle.hac_model.proofs.RangeLemmas.{range-rises}
 
 -- what counts little for each entry counts little for all
 pub sum-small : (s : State) (f : ℕ → ℕ) → IsLayout s → ((n : ℕ) → f n ≤ 196609) → sum_by f (numbers_of s.entries) < 2 ^ 63

@@ -10,8 +10,8 @@ use Rattle.hac_model.specs.declared.states.Answer.{Answer}
 use Rattle.hac_model.specs.declared.terms.Term.{Term}
 use Rattle.hac_model.proofs.TermLemmas.{same-own, terms-even}
 use Rattle.word_index.specs.Answers.{first_of, with_answer, with_answers}
-use Rattle.word_index.proofs.ListLemmas.{all-weaker}
-use Rattle.word_index.proofs.TermLemmas.{before-differs, behind-differs, term-trans}
+use Rattle.hac_model.proofs.SortedLemmas.{all-weaker}
+use Rattle.hac_model.proofs.TermOrderLemmas.{before-differs, behind-differs, term-trans}
 use Rattle.word_index.proofs.ToldLemmas.{kept-all}
 
 -- one answer more

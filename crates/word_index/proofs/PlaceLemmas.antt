@@ -13,8 +13,8 @@ use Rattle.hac_model.proofs.TermLemmas.{same-even, same-own, terms-even}
 use Rattle.word_index.specs.Answers.{AreInOrder, with_answer}
 use Rattle.word_index.specs.Places.{ArePlacesInOrder, DoDocumentsRise, DoPlacesRise, answers_in, bare_place, found_place, has_term, is_place_before, place_filled, with_place}
 use Rattle.word_index.specs.declared.places.Place.{Place}
-use Rattle.word_index.proofs.ListLemmas.{Falls, all-weaker, get-inside, get-outside}
-use Rattle.word_index.proofs.TermLemmas.{before-differs, behind-differs, never-both, never-own, term-trans}
+use Rattle.hac_model.proofs.SortedLemmas.{Falls, all-weaker, get-inside, get-outside}
+use Rattle.hac_model.proofs.TermOrderLemmas.{before-differs, behind-differs, never-both, never-own, term-trans}
 
 -- ---- how a place is found
 

@@ -15,7 +15,7 @@ use Rattle.word_index.specs.declared.kept.NewAnswers.{NewAnswers}
 use Rattle.word_index.specs.declared.places.Place.{Place}
 use Rattle.word_index.specs.declared.told.Told.{Told}
 use Rattle.word_index.proofs.PlaceLemmas.{filled-answers, kept-has_term}
-use Rattle.word_index.proofs.TermLemmas.{behind-differs}
+use Rattle.hac_model.proofs.TermOrderLemmas.{behind-differs}
 
 -- ---- where an answer is found
 

@@ -19,7 +19,7 @@ use Rattle.hac_model.specs.Query.Words.{is_asked}
 use Rattle.hac_model.specs.declared.terms.Term.{Term}
 use Rattle.hac_model.specs.declared.terms.Term.TheVariants.{Word, Prefix}
 use Rattle.word_index.specs.Words.{DoWordsRise, is_word_before}
-use Rattle.word_index.proofs.ListLemmas.{Falls, all-weaker, get-inside, get-outside}
+use Rattle.hac_model.proofs.SortedLemmas.{Falls, all-weaker, get-inside, get-outside}
 
 first : (a b : Bool) → (a && b) ≡ true → a ≡ true
 first true b both = refl

@@ -1,5 +1,5 @@
 -- What a checkpoint does to a store: its whole state is written as a new area of version 2, which then is the live one.
-use Rattle.std.specs.Prelude.{ℕ, ◌+◌, ◌-◌, ◌^◌, ◌&&◌, nat_le, nat_lt, if◌then◌else◌, Bool, true, false, List, length, Option, None, Some}
+use Rattle.std.specs.Prelude.{ℕ, ◌+◌, ◌-◌, ◌^◌, nat_le, nat_lt, if◌then◌else◌, Bool, true, false, List, length, Option, None, Some}
 use Rattle.hac_model.specs.Payload.States.{snapshot_of, snapshot_text}
 use Rattle.hac_model.specs.Run.Settings.{Setting}
 use Rattle.hac_model.specs.Tree.{raised}
@@ -23,11 +23,9 @@ free_place setting size =
     if nat_le (64 + size) setting.start then Some 64
     else if nat_le (setting.end + 1 + size) STORE_LIMIT then Some (setting.end + 1) else None
 
--- where an area goes that has one record, with a payload of this size: nowhere where no generation is left, or where no
--- record can be so long
+-- where an area goes that has one record, with a payload of this size: nowhere where no generation is left
 abbrev pub place_of : Setting → ℕ → Option ℕ
-place_of setting size =
-    if nat_lt setting.generation (2 ^ 64 - 1) && nat_lt size (2 ^ 32) then free_place setting (size + 6) else None
+place_of setting size = if nat_lt setting.generation (2 ^ 64 - 1) then free_place setting (size + 6) else None
 
 -- where the next area of a store goes
 abbrev pub next_place : Setting → Option ℕ

@@ -3,7 +3,7 @@ use Rattle.std.specs.Prelude.{ℕ, zero, suc, Bool, true, false, ◌==◌, ◌&&
 use Rattle.std.specs.List.{after_first, before_first, list_any}
 use Rattle.std.specs.Str.{bytes_eq}
 use Rattle.std.specs.Str.Parse.{digits_value}
-use Rattle.hac_model.specs.Script.Numbers.{is_tick}
+use Rattle.hac_model.specs.Script.Numbers.{is_seed, is_tick}
 use Rattle.hac_model.specs.Script.SpaceNames.{is_space_name}
 use Rattle.hac_model.specs.declared.limits.TheConstants.{SPACES_LIMIT}
 
@@ -11,23 +11,25 @@ use Rattle.hac_model.specs.declared.limits.TheConstants.{SPACES_LIMIT}
 abbrev pub Space : Type 0
 Space = List ℕ × List ℕ
 
--- whether the store is to be a new one, how many files may be indexed behind each command, the store's file, and the
--- spaces in their order
+-- whether the store is to be a new one, how many files may be indexed behind each command, the number from which the
+-- script is drawn, if it is, the store's file, and the spaces in their order
 pub record Options : Type 0 where
   pub fresh : Bool
   pub tick : ℕ
+  pub make : Option ℕ
   pub store : List ℕ
   pub spaces : List Space
 
--- what words give: `--new` so many times, these values of `--tick`, and these names
+-- what words give: `--new` so many times, these values of `--tick` and of `--make`, and these names
 pub record Parsed : Type 0 where
   pub news : ℕ
   pub ticks : List (List ℕ)
+  pub makes : List (List ℕ)
   pub names : List (List ℕ)
 
 -- these names alone
 abbrev pub names_alone : List (List ℕ) → Parsed
-names_alone names = record { news = 0; ticks = []; names = names }
+names_alone names = record { news = 0; ticks = []; makes = []; names = names }
 
 -- the same, and one more
 abbrev pub with_new : Parsed → Parsed
@@ -35,6 +37,9 @@ with_new given = record given { news = suc given.news }
 
 abbrev pub with_tick : List ℕ → Parsed → Parsed
 with_tick value given = record given { ticks = value ∷ given.ticks }
+
+abbrev pub with_make : List ℕ → Parsed → Parsed
+with_make value given = record given { makes = value ∷ given.makes }
 
 abbrev pub with_name : List ℕ → Parsed → Parsed
 with_name name given = record given { names = name ∷ given.names }
@@ -54,6 +59,13 @@ is_tick_word word = bytes_eq word (codes "--tick")
 abbrev pub begins_tick : List ℕ → Bool
 begins_tick word = bytes_eq (take 7 word) (codes "--tick=")
 
+-- the same for `--make`
+abbrev pub is_make_word : List ℕ → Bool
+is_make_word word = bytes_eq word (codes "--make")
+
+abbrev pub begins_make : List ℕ → Bool
+begins_make word = bytes_eq (take 7 word) (codes "--make=")
+
 -- two or more bytes, of which the first is `-`
 abbrev pub is_dashed : List ℕ → Bool
 is_dashed word = nat_le 2 (length word) && bytes_eq (take 1 word) (codes "-")
@@ -65,15 +77,17 @@ abbrev mutual
   given_by (word ∷ words) =
       if ends_options word then Some (names_alone words)
       else (if is_new word then option_map with_new (given_by words)
-      else (if is_tick_word word then given_behind_tick words
+      else (if is_tick_word word then given_behind with_tick words
       else (if begins_tick word then option_map (with_tick (drop 7 word)) (given_by words)
+      else (if is_make_word word then given_behind with_make words
+      else (if begins_make word then option_map (with_make (drop 7 word)) (given_by words)
       else (if is_dashed word then None
-      else option_map (with_name word) (given_by words)))))
+      else option_map (with_name word) (given_by words)))))))
 
-  -- the same where the first one is the value of `--tick`
-  pub given_behind_tick : List (List ℕ) → Option Parsed
-  given_behind_tick [] = None
-  given_behind_tick (word ∷ words) = if is_dashed word then None else option_map (with_tick word) (given_by words)
+  -- the same where the first one is the value of an option
+  pub given_behind : (List ℕ → Parsed → Parsed) → List (List ℕ) → Option Parsed
+  given_behind with_value [] = None
+  given_behind with_value (word ∷ words) = if is_dashed word then None else option_map (with_value word) (given_by words)
 
 -- `--new` stands at most once
 abbrev pub fresh_of : ℕ → Option Bool
@@ -86,6 +100,12 @@ abbrev pub tick_of : List (List ℕ) → Option ℕ
 tick_of [] = Some 0
 tick_of (value ∷ []) = if is_tick value then Some (digits_value 10 value) else None
 tick_of other = None
+
+-- and `--make`; without it no script is drawn
+abbrev pub make_of : List (List ℕ) → Option (Option ℕ)
+make_of [] = Some None
+make_of (value ∷ []) = if is_seed value then Some (Some (digits_value 10 value)) else None
+make_of other = None
 
 -- the first name is the store's, and not an empty one
 abbrev pub store_of : List (List ℕ) → Option (List ℕ)
@@ -123,10 +143,11 @@ spaces_of words = option_and_then (λ spaces. if may_stand spaces then Some spac
 -- what is asked for by what was given
 abbrev pub asked_by : Parsed → Option Options
 asked_by given =
-    option_and_then (λ fresh. option_and_then (λ tick. option_and_then (λ store. option_map (λ spaces.
-    record { fresh = fresh; tick = tick; store = store; spaces = spaces })
-    (spaces_of (drop 1 given.names))) (store_of given.names)) (tick_of given.ticks)) (fresh_of given.news)
+    option_and_then (λ fresh. option_and_then (λ tick. option_and_then (λ make. option_and_then (λ store. option_map (λ spaces.
+    record { fresh = fresh; tick = tick; make = make; store = store; spaces = spaces })
+    (spaces_of (drop 1 given.names))) (store_of given.names)) (make_of given.makes)) (tick_of given.ticks)) (fresh_of given.news)
 
--- what words ask for, if they fit the usage: `[--new] [--tick N] STORE [NAME=FILE]...`, with options anywhere before `--`
+-- what words ask for, if they fit the usage: `[--new] [--tick N] [--make NUMBER] STORE [NAME=FILE]...`, with options
+-- anywhere before `--`
 unfoldable pub options : List (List ℕ) → Option Options
 options words = option_and_then asked_by (given_by words)

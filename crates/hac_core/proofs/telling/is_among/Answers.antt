@@ -1,5 +1,5 @@
 use Rattle.std.proofs.Common.{◌∙◌}
-use Rattle.hac_core.proofs.NamesLemmas.{searched-among}
+use Rattle.hac_model.proofs.NameOrderLemmas.{searched-among}
 use Rattle.hac_core.proofs.telling.is_among.Goals as goal
 
 pub returns : goal.returns

@@ -1,4 +1,4 @@
-use Rattle.hac_core.proofs.NamesLemmas.{IsChainTo}
+use Rattle.hac_model.proofs.NameOrderLemmas.{IsChainTo}
 use Rattle.hac_core.proofs.telling.names_rise.Given as goal
 
 -- the names so far rise

@@ -5,8 +5,8 @@ use Rattle.hac_model.proofs.laws.first_command_lines.Goals as goal
 
 pub returns-clause-some : goal.returns-clause-some
 unfolding options is_space_name is_space_byte
-returns-clause-some c = (refl, refl, refl, refl, refl, refl, refl, refl, refl, refl, refl, refl, refl)
+returns-clause-some c = (refl, refl, refl, refl, refl, refl, refl, refl, refl, refl, refl, refl, refl, refl, refl)
 
 pub returns-clause-none : goal.returns-clause-none
 unfolding options is_space_name is_space_byte
-returns-clause-none c = (refl, refl, refl, refl, refl, refl, refl, refl, refl, refl, refl, refl, refl, refl, refl, refl, refl, refl, refl, refl, refl, refl)
+returns-clause-none c = (refl, refl, refl, refl, refl, refl, refl, refl, refl, refl, refl, refl, refl, refl, refl, refl, refl, refl, refl, refl, refl, refl, refl, refl, refl, refl, refl)

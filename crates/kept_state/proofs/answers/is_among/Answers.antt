@@ -1,5 +1,5 @@
 use Rattle.std.proofs.Common.{◌∙◌}
-use Rattle.kept_state.proofs.NumberLemmas.{searched-has}
+use Rattle.hac_model.proofs.SortedLemmas.{searched-has}
 use Rattle.kept_state.proofs.answers.is_among.Goals as goal
 
 pub returns : goal.returns

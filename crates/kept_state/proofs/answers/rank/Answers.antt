@@ -2,7 +2,7 @@ use Rattle.std.proofs.Common.{None, rules}
 use Rattle.std.proofs.lemmas.List.Sorted.{IsPartitionPoint-from_clause}
 use Rattle.hac_model.specs.Query.Terms.{is_term_before}
 use Rattle.hac_model.specs.declared.states.Answer.{Answer}
-use Rattle.kept_state.proofs.ListLemmas.{falls-partition, prefix-point}
+use Rattle.hac_model.proofs.SortedLemmas.{falls-partition, prefix-point}
 use Rattle.kept_state.proofs.OrderLemmas.{rank-falls}
 use Rattle.kept_state.proofs.answers.rank.Goals as goal
 

@@ -3,7 +3,7 @@ use Rattle.std.specs.Prelude.{not}
 use Rattle.hac_model.specs.Tree.Mounting.{is_among, is_gone, is_such_at}
 use Rattle.link_kinds.specs.Seen.{Known}
 use Rattle.kept_state.proofs.ForgetLemmas.{IsForgetting, forgets-next, forgetting-begins, forgetting-ends, gone-told, gone-within, keeps-next}
-use Rattle.kept_state.proofs.ListLemmas.{drop-end, drop-next}
+use Rattle.hac_model.proofs.SortedLemmas.{drop-end, drop-next}
 use Rattle.kept_state.proofs.forgetting.forget_gone.Goals as goal
 use Rattle.kept_state.proofs.forgetting.forget_gone.Goals.{then-not-is_among, else-not-is_among}
 

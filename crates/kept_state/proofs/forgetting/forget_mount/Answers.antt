@@ -1,7 +1,7 @@
 use Rattle.std.proofs.Common.{◌+◌, ◌∷◌, ℕ, Bool, List, drop, subst}
 use Rattle.hac_model.specs.Tree.Mounting.{is_of_mount, is_such_at}
 use Rattle.kept_state.proofs.ForgetLemmas.{IsForgetting, forgets-next, forgetting-begun, forgetting-ends, of_mount-in, of_mount-own, of_mount-within}
-use Rattle.kept_state.proofs.ListLemmas.{drop-end, drop-next}
+use Rattle.hac_model.proofs.SortedLemmas.{drop-end, drop-next}
 use Rattle.kept_state.proofs.forgetting.forget_mount.Goals as goal
 
 pub documents-init : goal.documents-init

@@ -1,7 +1,7 @@
 use Rattle.std.proofs.Common.{ℕ, List, rules}
 use Rattle.std.proofs.lemmas.List.Sorted.{IsPartitionPoint-from_clause}
 use Rattle.hac_model.specs.Tree.Listing.{is_before}
-use Rattle.kept_state.proofs.ListLemmas.{falls-partition, prefix-point}
+use Rattle.hac_model.proofs.SortedLemmas.{falls-partition, prefix-point}
 use Rattle.kept_state.proofs.NameLemmas.{names-fall}
 use Rattle.kept_state.proofs.forgetting.rank.Goals as goal
 

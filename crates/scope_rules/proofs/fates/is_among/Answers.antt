@@ -1,5 +1,5 @@
 use Rattle.std.proofs.Common.{◌∙◌}
-use Rattle.scope_rules.proofs.NamesLemmas.{searched-among}
+use Rattle.hac_model.proofs.NameOrderLemmas.{searched-among}
 use Rattle.scope_rules.proofs.fates.is_among.Goals as goal
 
 pub returns : goal.returns

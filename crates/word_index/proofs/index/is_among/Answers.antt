@@ -1,5 +1,5 @@
 use Rattle.std.proofs.Common.{◌∙◌}
-use Rattle.word_index.proofs.NumberLemmas.{searched-has}
+use Rattle.hac_model.proofs.SortedLemmas.{searched-has}
 use Rattle.word_index.proofs.index.is_among.Goals as goal
 
 pub returns : goal.returns

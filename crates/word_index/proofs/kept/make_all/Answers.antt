@@ -3,7 +3,7 @@ use Rattle.hac_model.specs.declared.terms.Term.{Term}
 use Rattle.word_index.specs.Kept.{has_place}
 use Rattle.word_index.specs.Places.{has_term}
 use Rattle.word_index.specs.declared.places.Place.{Place}
-use Rattle.word_index.proofs.ListLemmas.{drop-next}
+use Rattle.hac_model.proofs.SortedLemmas.{drop-next}
 use Rattle.word_index.proofs.ToldLemmas.{made-next}
 use Rattle.word_index.proofs.kept.make_all.Goals as goal
 

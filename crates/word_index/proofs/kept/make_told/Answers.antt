@@ -2,7 +2,7 @@ use Rattle.std.proofs.Common.{◌≡◌, ◌||◌, ◌+◌, ◌∙◌, List, dro
 use Rattle.hac_model.specs.declared.terms.Term.{Term}
 use Rattle.word_index.specs.Kept.{all_told, has_place, is_told}
 use Rattle.word_index.specs.declared.kept.NewAnswers.{NewAnswers}
-use Rattle.word_index.proofs.ListLemmas.{drop-next}
+use Rattle.hac_model.proofs.SortedLemmas.{drop-next}
 use Rattle.word_index.proofs.ToldLemmas.{told-next}
 use Rattle.word_index.proofs.kept.make_told.Goals as goal
 

@@ -5,7 +5,7 @@ use Rattle.hac_model.specs.Tree.Mounts.{kept_for}
 use Rattle.word_index.specs.Answers.{first_of, told_after}
 use Rattle.word_index.specs.Kept.{all_told}
 use Rattle.word_index.specs.declared.kept.NewAnswers.{NewAnswers}
-use Rattle.word_index.proofs.ListLemmas.{drop-next}
+use Rattle.hac_model.proofs.SortedLemmas.{drop-next}
 use Rattle.word_index.proofs.ToldLemmas.{found-next}
 use Rattle.word_index.proofs.kept.told_documents.Goals as goal
 

@@ -1,7 +1,7 @@
 use Rattle.std.proofs.Common.{rules}
 use Rattle.std.proofs.lemmas.List.Sorted.{IsPartitionPoint-from_clause}
 use Rattle.word_index.specs.Places.{is_place_before}
-use Rattle.word_index.proofs.ListLemmas.{falls-partition, prefix-point}
+use Rattle.hac_model.proofs.SortedLemmas.{falls-partition, prefix-point}
 use Rattle.word_index.proofs.PlaceLemmas.{places-fall}
 use Rattle.word_index.proofs.places.rank.Goals as goal
 

@@ -1,7 +1,7 @@
 use Rattle.std.proofs.Common.{◌≡◌, ◌+◌, ◌∷◌, ◌++◌, ℕ, List, drop, ap, subst, ◌∙◌}
 use Rattle.hac_model.specs.Tree.{is_directory_at}
 use Rattle.hac_model.specs.declared.states.Entry.{Entry}
-use Rattle.kept_state.proofs.ListLemmas.{drop-next}
+use Rattle.hac_model.proofs.SortedLemmas.{drop-next}
 use Rattle.layout_check.specs.Rising.{DoRise}
 use Rattle.snapshots.specs.Loading.{AreSoundMarks}
 use Rattle.snapshots.proofs.BesideLemmas.{kept-more, next-new}

@@ -38,7 +38,7 @@ use Rattle.hac_model.proofs.LiveLemmas.{all-few, live-few, tested-entry}
 use Rattle.hac_model.proofs.RaisedLemmas.{raised-valid}
 use Rattle.hac_model.proofs.StateSpellingLemmas.{valid-states-spelled}
 use Rattle.hac_model.proofs.TreeLemmas.{directory-lives, Lives}
-use Rattle.hac_store.proofs.LengthLemmas.{IsItem, items-few, joined-length, most-docs, name-length, num-length, nums-length, query-length, space-length, target-length}
+use Rattle.hac_model.proofs.LengthLemmas.{IsItem, items-few, joined-length, most-docs, name-length, num-length, nums-length, query-length, space-length, target-length}
 
 -- ---- the fields of an entry
 

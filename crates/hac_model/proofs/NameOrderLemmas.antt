@@ -1,4 +1,4 @@
--- A name among those that rise.
+-- Names that rise, by neighbours, and a name among them.
 use Rattle.std.proofs.Common.{◌≡◌, ℕ, zero, suc, ◌+◌, ◌<◌, ◌≤◌, Bool, true, false, List, [], ◌∷◌, length, get_or, subst, refl, ap, sym, ◌∙◌, arith, inl, inr}
 use Rattle.std.specs.Prelude.{◌||◌, Result, Ok, Err, is_ok}
 use Rattle.std.specs.Cmp.Lexicographic.{nat_list_cmp_total, nat_list_eq_equiv, slice_cmp}
@@ -15,16 +15,16 @@ use Rattle.std.proofs.lemmas.Slice.Eq.{bytes_eq-Decides}
 use Rattle.hac_model.specs.Tree.Listing.{is_before}
 use Rattle.hac_model.specs.Tree.Mounting.{do_names_rise, is_among}
 
-less-from : (o : Ordering) → is_lt o ≡ true → o ≡ Less
+pub less-from : (o : Ordering) → is_lt o ≡ true → o ≡ Less
 less-from Less h = refl
 less-from Equal h = absurd cc
 less-from Greater h = absurd cc
 
 -- each name comes before the one behind it, up to one
-abbrev IsChainTo : List (List ℕ) → ℕ → Type 0
+abbrev pub IsChainTo : List (List ℕ) → ℕ → Type 0
 IsChainTo names end = (k : ℕ) (d : List ℕ) → suc k < end → is_before (get_or names k d) (get_or names (suc k) d) ≡ true
 
-abbrev IsChain : List (List ℕ) → Type 0
+abbrev pub IsChain : List (List ℕ) → Type 0
 IsChain names = IsChainTo names (length names)
 
 all-at : {X : Type 0} (p : X → Bool) (xs : List X) (k : ℕ) (d : X) → list_all p xs ≡ true → k < length xs → p (get_or xs k d) ≡ true
@@ -32,7 +32,7 @@ all-at p [] k d h inside = absurd (omega arith)
 all-at p (x ∷ xs) zero d h inside = (and_parts (p x) (list_all p xs) h).0
 all-at p (x ∷ xs) (suc k) d h inside = all-at p xs k d (and_parts (p x) (list_all p xs) h).1 (omega arith)
 
-chain-rises : (names : List (List ℕ)) → do_names_rise names ≡ true → IsChain names
+pub chain-rises : (names : List (List ℕ)) → do_names_rise names ≡ true → IsChain names
 chain-rises [] h k d inside = absurd (omega arith)
 chain-rises (x ∷ xs) h zero d inside = all-at (is_before x) xs 0 d (and_parts (list_all (is_before x) xs) (do_names_rise xs) h).0 (omega arith)
 chain-rises (x ∷ xs) h (suc k) d inside = chain-rises xs (and_parts (list_all (is_before x) xs) (do_names_rise xs) h).1 k d (omega arith)
