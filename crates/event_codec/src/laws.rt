@@ -1,5 +1,6 @@
 //! Theorems over the definitions alone. Each is the contract of a function that does nothing.
-ghost use Rattle.event_codec.specs.Laws.{ReadIsSnapshot, ReadIsWritten, SnapshotIsRead, WrittenIsRead};
+ghost use Rattle.event_codec.specs.Laws.{ReadIsSnapshot, ReadIsWritten, SnapshotIsRead};
+ghost use Rattle.event_codec.specs.Laws.{WrittenIsRead};
 
 /// An event is read back from its spelling, in each version.
 pub fn written_is_read()

@@ -148,7 +148,8 @@ pub(crate) fn short_list<T: Item>(
     bytes: &mut Bytes,
 ) -> Result<Seq<T>, Fault>
     ensures { GivesField result bytes.new
-        ((list (checked count (λ n. nat_le n (docs_limit version))) (T.item version)).read bytes.old) }
+        ((list (checked count (λ n. nat_le n (docs_limit version))) (T.item version)).read
+        bytes.old) }
 {
     let bad = bytes.bad();
     let count = count(bytes)?;
@@ -215,7 +216,8 @@ pub(crate) fn put_list<T: Item>(
 
 fn put_items<T: Item>(out: &mut Vec<u8>, version: Version, items: &[T]) -> Result<(), Memory>
     requires { IsTrue (items_fit (T.item version) None items.now) }
-    ensures { OnOk result (out.new.items ≡ out.old.items ++ items_text (T.item version) None items.now) }
+    ensures { OnOk result
+        (out.new.items ≡ out.old.items ++ items_text (T.item version) None items.now) }
 {
     'items: for item in items {
         item.put(out, version)?;

@@ -17,9 +17,9 @@ use crate::writing::event_kind;
 use hac_model::{Event, Kind, Mark, Version};
 use std::alloc::Global;
 
-/// The event that a payload says in a store of this version. A payload of another version's kind, or
-/// of a state, is bad at 0. Numbers of entries have four bytes in version One. They have eight in
-/// version Two, and one that no entry may have is bad at its first byte.
+/// The event that a payload says in a store of this version. A payload of another version's kind,
+/// or of a state, is bad at 0. Numbers of entries have four bytes in version One. They have eight
+/// in version Two, and one that no entry may have is bad at its first byte.
 #[tactic(auto, unfolding(hac_model::specs::Payload::Payloads::spelled))]
 pub fn read_event(alloc: Global, version: Version, bytes: &[u8]) -> Result<Event, CodecFault>
     ensures event { ReadsEvent result (spelled version bytes.now) }

@@ -41,9 +41,9 @@ fn state_kind(version: Version) -> u8
     }
 }
 
-/// The snapshot that a payload says, of the version that the payload's kind tells. It need not be one
-/// of a state that there can be: numbers and parents aren't compared with one another, except that
-/// the entries rise.
+/// The snapshot that a payload says, of the version that the payload's kind tells. It need not be
+/// one of a state that there can be: numbers and parents aren't compared with one another, except
+/// that the entries rise.
 #[tactic(auto, unfolding(hac_model::specs::Payload::States::spelled_snapshot))]
 pub fn read_snapshot(alloc: Global, bytes: &[u8]) -> Result<Snapshot, CodecFault>
     ensures snapshot { ReadsSnapshot result (spelled_snapshot bytes.now) }

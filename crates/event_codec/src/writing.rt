@@ -10,9 +10,9 @@ use crate::putting::{
 use hac_model::{Event, Memory, Version};
 use std::alloc::Global;
 
-/// The payload of an event in a store of this version: its kind is 1 in version One and 4 in version
-/// Two, and numbers of entries have four bytes in version One and eight in version Two. Where a
-/// session stands is never written, so a `Cd` has none.
+/// The payload of an event in a store of this version: its kind is 1 in version One and 4 in
+/// version Two, and numbers of entries have four bytes in version One and eight in version Two.
+/// Where a session stands is never written, so a `Cd` has none.
 #[tactic(auto, unfolding(hac_model::specs::Payload::Payloads::event_text, hac_model::specs::Payload::Payloads::is_spellable))]
 pub fn write_event(alloc: Global, version: Version, event: &Event) -> Result<Vec<u8>, Memory>
     requires { IsTrue (is_spellable version event.now) }

@@ -1,6 +1,7 @@
-//! A tree that is made of the entries of a state, as one that was read from a store. A directory may
-//! come behind what is in it.
-ghost use Rattle.std.specs.Prelude.{◌≡◌, ◌||◌, ◌&&◌, ◌<◌, ℕ, [], is_some, nat_eq, IfOk, IsTrue, OnOk};
+//! A tree that is made of the entries of a state, as one that was read from a store. A directory
+//! may come behind what is in it.
+ghost use Rattle.std.specs.Prelude.{◌≡◌, ◌||◌, ◌&&◌, ◌<◌, ℕ, [], is_some, nat_eq, IfOk, IsTrue};
+ghost use Rattle.std.specs.Prelude.{OnOk};
 ghost use Rattle.std.specs.BTreeSet.{contains};
 ghost use Rattle.std.specs.Ordering.{nat_cmp};
 ghost use Rattle.hac_model.specs.Tree.{entry_at};

@@ -86,8 +86,8 @@ impl Machine {
 
     /// Follows the paths of a line that spells a command, and says whether the state refuses it
     /// whatever spaces answer: for what the paths lead to, for what blocks it, for a limit on the
-    /// tree itself, or because a directory would depend on itself, in this order. The draft has what
-    /// the command asks spaces.
+    /// tree itself, or because a directory would depend on itself, in this order. The draft has
+    /// what the command asks spaces.
     pub fn check(&self, line: Line) -> Result<Draft, Deny>
         requires { IsTrue (is_spelled_line line) }
         ensures draft { IfOk result (IsDraftOf self.now.state line) }
@@ -123,8 +123,8 @@ impl Machine {
         }
     }
 
-    /// The outcome of a command that changes the state, given what spaces answered to its questions,
-    /// unless it would exceed a limit that `check` leaves aside.
+    /// The outcome of a command that changes the state, given what spaces answered to its
+    /// questions, unless it would exceed a limit that `check` leaves aside.
     pub fn settle(&self, draft: Draft, answers: Answers) -> Result<Settled, Deny>
         requires made { IsDraft self.now.state draft }
         requires changes { reads draft ≡ false }

@@ -12,11 +12,11 @@ use super::records::{OPEN, log_bytes, log_end};
 use hac_disk::{Disk, write_stable};
 use std::alloc::Global;
 
-/// Puts records of these payloads behind the log that ends at `end`, and answers the log's new end.
-/// All but the first gate is written and synced behind the gate that is closed; then the first gate
-/// is opened and synced: so a crash leaves none of the records, or all. `Full` and `Memory` come
-/// before any write. The log and the closed gate behind it end within `limit` bytes. Each payload is
-/// so short that its length has four bytes.
+/// Puts records of these payloads behind the log that ends at `end`, and answers the log's new
+/// end. All but the first gate is written and synced behind the gate that is closed; then the
+/// first gate is opened and synced: so a crash leaves none of the records, or all. `Full` and
+/// `Memory` come before any write. The log and the closed gate behind it end within `limit`
+/// bytes. Each payload is so short that its length has four bytes.
 pub fn append<D: Disk>(
     alloc: Global,
     disk: &mut D,

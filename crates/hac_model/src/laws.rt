@@ -8,15 +8,18 @@ ghost use Rattle.hac_model.specs.Laws.{BareCommutes, FactsFollow, SessionsFollow
 ghost use Rattle.hac_model.specs.Laws.{LinesSpell};
 ghost use Rattle.hac_model.specs.Laws.{CommandsHappen, StepsAreDue, StepsClean, IndexCleans};
 ghost use Rattle.hac_model.specs.Laws.{ScriptsKeepValid, EventsLead, EventsEnd, AcceptedAreSpelled};
-ghost use Rattle.hac_model.specs.Laws.{ValidAreSpelled, SessionsAreNotStored, FullStore, FirstAreas};
+ghost use Rattle.hac_model.specs.Laws.{ValidAreSpelled, SessionsAreNotStored, FullStore};
+ghost use Rattle.hac_model.specs.Laws.{FirstAreas};
 ghost use Rattle.hac_model.specs.Laws.{FirstCommandLines, NoCommandLines, LinksStay, LinksAreOnly};
-ghost use Rattle.hac_model.specs.Laws.{ValidIsAcyclic, PlainTellsState, LooksFind, LooksFollow, LooksTell};
+ghost use Rattle.hac_model.specs.Laws.{ValidIsAcyclic, PlainTellsState, LooksFind, LooksFollow};
+ghost use Rattle.hac_model.specs.Laws.{LooksTell};
 ghost use Rattle.hac_model.specs.Laws.{MovesRename, PrintedTextIsRead, PrintedTextIsOneLine};
 ghost use Rattle.hac_model.specs.Laws.{QuotedWordIsRead, QuotesAreOneSpelling, FirstListings};
 ghost use Rattle.hac_model.specs.FirstMounts.{AttachedMounts, FalseIsNotTold, FirstMounts};
 ghost use Rattle.hac_model.specs.FirstMounts.{LibraryIsValid};
 ghost use Rattle.hac_model.specs.FirstMounts.{MountsCome, MountsGo, MountsRefuse, SyncsKeepNumbers};
-ghost use Rattle.hac_model.specs.Laws.{FirstDrawn, FirstMade, MovedListings, LentListings, FirstLinks, FirstSteps};
+ghost use Rattle.hac_model.specs.Laws.{FirstDrawn, FirstMade, MovedListings, LentListings};
+ghost use Rattle.hac_model.specs.Laws.{FirstLinks, FirstSteps};
 ghost use Rattle.hac_model.specs.Laws.{FirstEnd, LastNumbers, NoRoot, ValidityIsTested};
 ghost use Rattle.hac_model.specs.Laws.{EventsAreShort, RaisedIsValid, RaisedLinks};
 ghost use Rattle.hac_model.specs.Laws.{StatesAreShort};
@@ -138,9 +141,9 @@ pub fn marks_are_kept()
     ensures go { MarksGo }
 {}
 
-/// What is found was indexed, and the user said nothing of it. A directory provides the items that
-/// the user added to it, and all that the directories provide that the user added; and what the user
-/// removed from it only if it is stored below it or lent to it.
+/// What is found was indexed, and the user said nothing of it. A directory provides the items
+/// that the user added to it, and all that the directories provide that the user added; and what
+/// the user removed from it only if it is stored below it or lent to it.
 pub fn links_respect_marks()
     ensures unmarked { LinksAreUnmarked }
     ensures found { FoundAreIndexed }
@@ -220,8 +223,8 @@ pub fn first_steps()
     ensures { FirstSteps }
 {}
 
-/// A run over a full store, where the store of a small run ends, where checkpoints write, and the last
-/// numbers.
+/// A run over a full store, where the store of a small run ends, where checkpoints write, and the
+/// last numbers.
 pub fn stores_end()
     ensures full { FullStore }
     ensures root { NoRoot }

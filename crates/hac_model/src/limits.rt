@@ -1,5 +1,5 @@
-//! The limits of a store, each with the word by which a refusal names it. Where a limit depends on the
-//! version of a store, what stands here is the greatest of any version.
+//! The limits of a store, each with the word by which a refusal names it. Where a limit depends
+//! on the version of a store, what stands here is the greatest of any version.
 ghost use Rattle.std.specs.Prelude.{◌≡◌};
 ghost use Rattle.hac_model.specs.Tree.Limits.{answer_limits, first_passed, layout_limits};
 
@@ -64,7 +64,8 @@ pub const SESSIONS_LIMIT: u64 = 1_024;
 /// The most documents of one mount.
 pub const DOCS_LIMIT: u64 = 65_536;
 
-/// The most documents in all kept answers together, each counted once for each answer that names it.
+/// The most documents in all kept answers together, each counted once for each answer that names
+/// it.
 pub const ANSWERS_LIMIT: u64 = 4_194_304;
 
 /// The most kept answers: pairs of a mount and a term.

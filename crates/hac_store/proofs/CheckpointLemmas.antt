@@ -30,6 +30,7 @@ use Rattle.hac_model.specs.declared.versions.Version.{Version}
 use Rattle.hac_model.specs.declared.versions.Version.TheVariants.{One, Two}
 use Rattle.hac_model.proofs.RaisedLemmas.{raised-valid}
 use Rattle.hac_model.proofs.SpelledLemmas.{sessionless-valid}
+use Rattle.hac_model.proofs.StateLengthLemmas.{states-short}
 use Rattle.hac_model.proofs.StateSpellingLemmas.{valid-states-spelled}
 use Rattle.hac_model.proofs.ValidTestLemmas.{valid-Decides}
 use Rattle.event_codec.proofs.SnapshotLemmas.{snapshot_is_read}
@@ -68,13 +69,13 @@ state-after at s valid =
 
 -- so an area that was written of it leads there
 area-written : (s : State) (at : ℕ) (file : List ℕ) → IsValid s → at ≤ length file
-    → length (state_text (raised s)) < 2 ^ 32 → area at (overlaid at (area_of (state_text (raised s))) file)
+    → area at (overlaid at (area_of (state_text (raised s))) file)
     ≡ Ok (record { state = stored s; end = at + 5 + length (state_text (raised s)) })
-area-written s at file valid starts fits =
+area-written s at file valid starts =
     let payload = state_text (raised s) in
     let new = overlaid at (area_of payload) file in
     let end = at + 5 + length payload in
-    let found = areas-are-found at payload file starts fits in
+    let found = areas-are-found at payload file starts (states-short s valid) in
     area-state at new payload end found.0 (state-is_state (raised s))
     ∙ ap (λ (r : Result State Stop). go_on r (λ next. log next end new)) (state-after at s valid)
     ∙ log-closed (stored s) end new (closed-is-found end new found.1)
@@ -89,22 +90,16 @@ length-area payload =
 abbrev live_area : Seen → Area
 live_area store = record { start = store.setting.start; end = store.setting.end }
 
--- what a place for an area says
-record IsPlace (store : Seen) (at size : ℕ) : Type 0 where
-  pub fits : size < 2 ^ 32
-  pub place : place_for STORE_LIMIT (live_area store) (size + 6) ≡ Some at
-
-place-is : (store : Seen) (at size : ℕ) → place_of store.setting size ≡ Some at → IsPlace store at size
-place-is store at size is = by (nat_lt store.setting.generation (2 ^ 64 - 1)) (nat_lt size (2 ^ 32)) refl is
+place-is : (store : Seen) (at size : ℕ) → place_of store.setting size ≡ Some at
+    → place_for STORE_LIMIT (live_area store) (size + 6) ≡ Some at
+place-is store at size is = by (nat_lt store.setting.generation (2 ^ 64 - 1)) is
   where
     place : Option ℕ
     place = place_for STORE_LIMIT (live_area store) (size + 6)
 
-    by : (a b : Bool) → nat_lt size (2 ^ 32) ≡ b → (if a && b then place else None) ≡ Some at
-        → IsPlace store at size
-    by true true small is = record { fits = grind (arith, nat_tests); place = is }
-    by true false small is = absurd cc
-    by false b small is = absurd cc
+    by : (left : Bool) → (if left then place else None) ≡ Some at → place ≡ Some at
+    by true is = is
+    by false is = absurd cc
 
 -- an area is read the same where a write apart from it was torn
 area-torn : (at n start : ℕ) (c d : List ℕ) (l : Log) → Torn at n d c
@@ -157,7 +152,7 @@ module _ (store : Seen) (at : ℕ) where
     apart : 64 ≤ store.setting.start
         → (64 ≤ at) × (at ≤ store.setting.end + 1) × IsApart at (size + 6) (live_area store)
     apart behind =
-        new-areas-lie-apart STORE_LIMIT (size + 6) at (live_area store) behind order (place-is store at size free).place
+        new-areas-lie-apart STORE_LIMIT (size + 6) at (live_area store) behind order (place-is store at size free)
 
     -- while the new area is written, a crash leaves what was held
     pub torn-holds : (c d : List ℕ) → held d ≡ Ok (stored_setting store.setting) → Torn at (size + 6) d c
@@ -189,7 +184,7 @@ module _ (store : Seen) (at : ℕ) where
         record {
           old_is =
               area-torn at (length bytes) store.setting.start (overlaid at bytes file) file old_log torn free_of was;
-          new_is = area-written s at file valid starts (place-is store at size free).fits;
+          new_is = area-written s at file valid starts;
         }
 
     -- the place lies in a file that has the root of the store, and so does the head

@@ -18,13 +18,10 @@ use hac_disk::Disk;
 use hac_model::{Memory, STORE_LIMIT, Version};
 use hac_outside::Failed;
 
-// A record's length has four bytes, so each payload is shorter than this.
-const PAYLOAD_LIMIT: u64 = 4_294_967_296;
-
 impl Store {
     /// Writes the state as a new area of version 2, in a place that the live one doesn't use, and
-    /// then flips the root to it. The log goes on behind the state, in that version. After `Full` and
-    /// `Memory` nothing was written and all is as before; after `Disk` the store is broken.
+    /// then flips the root to it. The log goes on behind the state, in that version. After `Full`
+    /// and `Memory` nothing was written and all is as before; after `Disk` the store is broken.
     pub fn checkpoint<D: Disk>(&mut self, disk: &mut D) -> Result<(), StoreFault>
         requires intact { self.old.broken ≡ false }
         requires place { Bears (D.seen disk.old) self.old }
@@ -61,7 +58,7 @@ impl Store {
     fn place_of(&self, payload: u64) -> Option<u64>
         ensures { result ≡ place_of self.now.setting payload }
     {
-        if self.generation == u64::MAX || payload >= PAYLOAD_LIMIT {
+        if self.generation == u64::MAX {
             return None;
         }
         let live = Area {

@@ -1,7 +1,7 @@
 //! A tree that lives in a store: each event is a record of a log before it happens, and a crash
-//! loses none that was answered. Where sessions stand isn't stored. The first record of the live area
-//! tells the version of the store, and a checkpoint writes version 2 whatever it was. This crate
-//! joins the machine to the disk, and knows nothing of lines and replies.
+//! loses none that was answered. Where sessions stand isn't stored. The first record of the live
+//! area tells the version of the store, and a checkpoint writes version 2 whatever it was. This
+//! crate joins the machine to the disk, and knows nothing of lines and replies.
 #![tactic(auto)]
 
 mod appending;

@@ -35,13 +35,14 @@ use std::alloc::Global;
 /// Attaches the spaces that the words name, opens the store, plays the script that the source
 /// gives, and writes the reply to each command to the sink.
 ///
-/// `words` are those of the program behind its own name: `[--new] [--tick N] STORE [NAME=FILE]...`.
-/// Each FILE is read first, as the catalogue of the space NAME. Then the disk is bound to the file
-/// STORE, which is made where it is missing and `--new` is given. The source is read in pieces, and
-/// no line is carried out before the reply to the line before it was written and flushed; what a
-/// line changes is stored before its reply is written. Behind each reply up to N index steps
-/// follow. A `put` is carried out with the bytes that follow its line. A command asks the spaces
-/// what it has to know of their documents, and is refused where one of them isn't attached or fails.
+/// `words` are those of the program behind its own name: `[--new] [--tick N] STORE
+/// [NAME=FILE]...`. Each FILE is read first, as the catalogue of the space NAME. Then the disk is
+/// bound to the file STORE, which is made where it is missing and `--new` is given. The source is
+/// read in pieces, and no line is carried out before the reply to the line before it was written
+/// and flushed; what a line changes is stored before its reply is written. Behind each reply up
+/// to N index steps follow. A `put` is carried out with the bytes that follow its line. A command
+/// asks the spaces what it has to know of their documents, and is refused where one of them isn't
+/// attached or fails.
 pub fn run<S: Source, K: Sink, D: Disk, P: Spaces>(
     alloc: Global,
     words: &[String],

@@ -1,5 +1,5 @@
-//! Runs with checkpoints over a disk that stops at some call: what is there when the store is opened
-//! again.
+//! Runs with checkpoints over a disk that stops at some call: what is there when the store is
+//! opened again.
 use crate::runs::{NEW, OLD, expect_run, failing_disk, reply};
 use hac_disk::{FuseDisk, MemoryDisk};
 use hac_top::Status;

@@ -1,3 +1,4 @@
 pub mod Kept
 pub mod Tasks
 pub mod Items
+pub mod Coming

@@ -2,6 +2,7 @@
 //! changes the links that it must, and no others are looked at. It knows no command and no path.
 #![tactic(auto)]
 
+mod coming;
 mod items;
 mod linked;
 mod lookups;

@@ -1,13 +1,14 @@
 //! What is new in the links behind an event.
-ghost use Rattle.std.specs.Prelude.{◌≡◌, ◌==◌, ◌∷◌, [], ℕ, false, IfOk, IsTrue};
-ghost use Rattle.hac_model.specs.Tree.Events.{accepted, apply};
+ghost use Rattle.std.specs.Prelude.{◌≡◌, ◌==◌, ℕ, false, IfOk};
 ghost use Rattle.hac_model.specs.Tree.Touched.{begins};
+ghost use Rattle.kept_links.specs.Coming.{BeginsNowhere, IsComing, state_before, state_behind};
 ghost use Rattle.kept_links.specs.Kept.{AreNews, is_still};
 ghost use Rattle.kept_state.specs.After.{are_quiet, next_state};
 ghost use Rattle.link_kinds.specs.Seen.{SameKinds};
 ghost use Rattle.reeval.specs.Settled.{AreLinksOf, HasRoom};
 ghost use Rattle.reindex.specs.Ways.{IsWayOf};
 
+use crate::coming::Coming;
 use crate::items::begin;
 use crate::outlook::Outlook;
 use crate::tasks::{task_from, way_next};
@@ -56,36 +57,35 @@ fn next_news(alloc: Global, kept: &KeptState, found: &Links, way: &Way) -> Resul
     ensures { IfOk result (AreNews kept.now.state (next_state kept.now) way.now) }
 {
     match kept.event() {
-        Some(event) => news_of(alloc, kept, found, way, event),
+        Some(event) => news_of(
+            alloc,
+            Coming {
+                kept,
+                found,
+                way,
+                event,
+            },
+        ),
         None => unreachable!(),
     }
 }
 
 /// What will be new behind this event.
-fn news_of(
-    alloc: Global,
-    kept: &KeptState,
-    found: &Links,
-    way: &Way,
-    event: &Event,
-) -> Result<News, Memory>
-    requires links { AreLinksOf kept.now.state found.now }
-    requires way { IsWayOf kept.now.state way.now }
-    requires ready { kept.now.ready ≡ event.now ∷ [] }
-    requires accepted { IsTrue (accepted kept.now.state event.now) }
+fn news_of(alloc: Global, coming: Coming<'_>) -> Result<News, Memory>
+    requires { IsComing coming }
     ensures { IfOk result
-        (AreNews kept.now.state (apply kept.now.state event.now) way.now) }
+        (AreNews (state_before coming) (state_behind coming) coming.way.now) }
 {
-    kept.know_valid();
-    if is_still(way, event) {
+    coming.kept.know_valid();
+    if is_still(coming.way, coming.event) {
         return Ok(News {
             delta: Vec::new(alloc),
             way: None,
         });
     }
-    match begin(kept, event) {
-        Some(first) => news_from(alloc, kept, found, event, first),
-        None => news_of_touched(alloc, kept, found, way, event),
+    match begin(coming.kept, coming.event) {
+        Some(first) => news_from(alloc, coming, first),
+        None => news_of_touched(alloc, coming),
     }
 }
 
@@ -101,20 +101,19 @@ fn is_still(way: &Way, event: &Event) -> bool
 }
 
 /// What will be new behind an event that begins at a directory.
-fn news_from(
-    alloc: Global,
-    kept: &KeptState,
-    found: &Links,
-    event: &Event,
-    first: Number,
-) -> Result<News, Memory>
-    requires links { AreLinksOf kept.now.state found.now }
-    requires ready { kept.now.ready ≡ event.now ∷ [] }
-    requires accepted { IsTrue (accepted kept.now.state event.now) }
-    requires begins { (dir : ℕ) → begins kept.now.state event.now dir ≡ (dir == first) }
-    ensures { (way : Way) → IfOk result
-        (AreNews kept.now.state (apply kept.now.state event.now) way) }
+fn news_from(alloc: Global, coming: Coming<'_>, first: Number) -> Result<News, Memory>
+    requires coming { IsComing coming }
+    requires begins { (dir : ℕ) → begins (state_before coming) coming.event.now dir
+        ≡ (dir == first) }
+    ensures { IfOk result
+        (AreNews (state_before coming) (state_behind coming) coming.way.now) }
 {
+    let Coming {
+        kept,
+        found,
+        event,
+        ..
+    } = coming;
     kept.know_valid();
     let outlook = Outlook::new(kept, event);
     let way = way_next(alloc, kept, &outlook, first)?;
@@ -127,22 +126,13 @@ fn news_from(
 }
 
 /// What will be new behind an event that begins at no directory.
-fn news_of_touched(
-    alloc: Global,
-    kept: &KeptState,
-    found: &Links,
-    way: &Way,
-    event: &Event,
-) -> Result<News, Memory>
-    requires links { AreLinksOf kept.now.state found.now }
-    requires way { IsWayOf kept.now.state way.now }
-    requires ready { kept.now.ready ≡ event.now ∷ [] }
-    requires accepted { IsTrue (accepted kept.now.state event.now) }
-    requires never { (dir : ℕ) → begins kept.now.state event.now dir ≡ false }
+fn news_of_touched(alloc: Global, coming: Coming<'_>) -> Result<News, Memory>
+    requires coming { IsComing coming }
+    requires never { BeginsNowhere coming }
     ensures { IfOk result
-        (AreNews kept.now.state (apply kept.now.state event.now) way.now) }
+        (AreNews (state_before coming) (state_behind coming) coming.way.now) }
 {
-    kept.know_valid();
-    let delta = delta_of_touched(alloc, kept, found, way, event)?;
+    coming.kept.know_valid();
+    let delta = delta_of_touched(alloc, coming)?;
     Ok(News { delta, way: None })
 }

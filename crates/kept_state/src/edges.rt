@@ -8,8 +8,8 @@ use crate::parts::Parts;
 use hac_model::{Mark, Memory, Node, Number, Query};
 use std::alloc::Global;
 
-/// The edges of a directory with a parent and a query, to which these directories were added: to the
-/// parent, then to those that the query names, then to these.
+/// The edges of a directory with a parent and a query, to which these directories were added: to
+/// the parent, then to those that the query names, then to these.
 pub fn edges_of(
     alloc: Global,
     parent: Number,
@@ -71,8 +71,8 @@ pub fn cycle_of_move(
     }
 }
 
-/// The directory to be added to another, if it is that one or depends on it. Where an item is added,
-/// nothing comes to depend on anything.
+/// The directory to be added to another, if it is that one or depends on it. Where an item is
+/// added, nothing comes to depend on anything.
 pub fn cycle_of_mark(alloc: Global, kept: &Parts, mark: &Mark) -> Result<Option<Number>, Memory>
     requires { IsLinked kept.now }
     ensures { IfOk result (λ way. way

@@ -257,8 +257,8 @@ impl KeptState {
         edges::cycle_of_move(alloc, &self.parts, entry, dir)
     }
 
-    /// The directory to be added to another, if it is that one or depends on it. Of an item there is
-    /// none.
+    /// The directory to be added to another, if it is that one or depends on it. Of an item there
+    /// is none.
     pub fn cycle_of_mark(&self, alloc: Global, mark: &Mark) -> Result<Option<Number>, Memory>
         ensures { IfOk result (λ way. way
             ≡ cycle_of_mark self.now.state mark.now.dir mark.now.item mark.now.kind) }

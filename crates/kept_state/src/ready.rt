@@ -1,5 +1,6 @@
 //! What a machine is ready for: memory is taken first, and the change then made without any.
-ghost use Rattle.std.specs.Prelude.{◌≡◌, ◌<◌, ◌≤◌, [], IfOk, IfSome, IsTrue, List, None, Some, length, replicate, ℕ};
+ghost use Rattle.std.specs.Prelude.{◌≡◌, ◌<◌, ◌≤◌, [], IfOk, IfSome, IsTrue, List, None, Some};
+ghost use Rattle.std.specs.Prelude.{length, replicate, ℕ};
 ghost use Rattle.hac_model.specs.Laws.{AllHappen};
 ghost use Rattle.hac_model.specs.Script.PathWords.{is_target, untested_word};
 ghost use Rattle.hac_model.specs.Tree.Asking.{are_all_told};

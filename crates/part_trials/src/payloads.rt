@@ -202,8 +202,8 @@ fn faults_are_told_with_their_place(rt: HostRuntime) -> Result<(), Fail> {
 fn faults_of_version_two_are_told_with_their_place(rt: HostRuntime) -> Result<(), Fail> {
     let alloc = rt.alloc();
     let rows: [(&[u8], u64); 17] = [
-        // The payload and its kind: none, those of an event of version One and of states, and a byte
-        // behind an event.
+        // The payload and its kind: none, those of an event of version One and of states, and a
+        // byte behind an event.
         (b"", 0),
         (b"\x01\x0f", 0),
         (b"\x01\x01\0\0\0\0\0\0\0\0\x01a", 0),
@@ -212,8 +212,8 @@ fn faults_of_version_two_are_told_with_their_place(rt: HostRuntime) -> Result<()
         (b"\x04", 1),
         (b"\x04\x10", 1),
         (b"\x04\x0f\x0f", 2),
-        // Numbers: one that is cut short, one of four bytes, one of nine, and ones that no entry may
-        // have.
+        // Numbers: one that is cut short, one of four bytes, one of nine, and ones that no entry
+        // may have.
         (b"\x04\x06\x01\0\0\0\0\0\0", 2),
         (b"\x04\x06\x01\0\0\0", 2),
         (b"\x04\x06\x01\0\0\0\0\0\0\0\0", 10),

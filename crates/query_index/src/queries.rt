@@ -56,7 +56,8 @@ pub(crate) fn add(
     ensures words { OnOk result (AddsPlace words.old words.new
         (λ letters. option_map_or (has_word letters) (option_copied query.entry) false) place) }
     ensures beginnings { OnOk result (AddsPlace beginnings.old beginnings.new
-        (λ letters. option_map_or (has_beginning letters) (option_copied query.entry) false) place) }
+        (λ letters. option_map_or (has_beginning letters) (option_copied query.entry) false)
+        place) }
 {
     match query {
         Some(query) => add_terms(alloc, words, beginnings, query, place),

@@ -22,8 +22,8 @@ pub fn reserve(found: &mut Links, delta: &[Change]) -> Result<(), Memory>
     Ok(())
 }
 
-/// Puts new verdicts into the links, the last of an item and a directory over those before. It takes
-/// no memory.
+/// Puts new verdicts into the links, the last of an item and a directory over those before. It
+/// takes no memory.
 pub fn apply(found: &mut Links, delta: &[Change])
     requires { HasRoom found.old delta.now }
     ensures { (item dir : ℕ) → verdict_in found.new item dir

@@ -2,7 +2,8 @@
 ghost use Rattle.std.specs.Prelude.{◌≡◌, ◌&&◌, ◌||◌, ℕ, Bool, IsTrue, is_some};
 ghost use Rattle.std.specs.List.{list_any};
 ghost use Rattle.hac_model.specs.Query.Queries.{query_meaning};
-ghost use Rattle.hac_model.specs.Tree.Links.{atom, holds, is_item, is_lent, is_permanent, is_semantic};
+ghost use Rattle.hac_model.specs.Tree.Links.{atom, holds, is_item, is_lent, is_permanent};
+ghost use Rattle.hac_model.specs.Tree.Links.{is_semantic};
 ghost use Rattle.hac_model.specs.Tree.Links.{passes, provide, satisfies};
 ghost use Rattle.reeval.specs.Judging.{is_linked, judgement, verdict_of};
 ghost use Rattle.reeval.specs.Told.{told};
@@ -78,7 +79,8 @@ impl<'a, Y: Layout, A: Atoms, B: Before> Sight<'a, Y, A, B> {
     /// Whether a directory finds an item: queries judge it, the user says nothing of it there, the
     /// directory above provides it, and it satisfies the query. What costs least comes first.
     fn passes(&self, dir: Number, item: Number) -> bool
-        ensures { IsTrue (is_item (Y.state self.now.layout.now) item) → A.atoms self.now.atoms.now ≡ atom (Y.state self.now.layout.now) →
+        ensures { IsTrue (is_item (Y.state self.now.layout.now) item) →
+            A.atoms self.now.atoms.now ≡ atom (Y.state self.now.layout.now) →
             result ≡ passes (Y.state self.now.layout.now)
             (is_linked (told self.now.news.now (verdict_of (B.state self.now.before.now) item)))
             dir item }

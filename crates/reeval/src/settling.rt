@@ -41,7 +41,8 @@ pub fn settle<Y: Layout, A: Atoms, B: Before>(
     ensures own { IfOk result (λ news. list_all (is_on item) news.items ≡ true) }
     ensures news { A.atoms atoms.now ≡ atom (Y.state layout.now)
         → Covers (B.state before.now) (Y.state layout.now) stops.now item
-        → IfOk result (λ news. (dir : ℕ) → told news.items (verdict_of (B.state before.now) item) dir
+        → IfOk result (λ news. (dir : ℕ) →
+        told news.items (verdict_of (B.state before.now) item) dir
         ≡ verdict_of (Y.state layout.now) item dir) }
 {
     let mut news = Vec::new(alloc);
@@ -123,8 +124,8 @@ fn judge_anew<Y: Layout, A: Atoms, B: Before>(
     Ok(())
 }
 
-/// Adds a directory to those that moved, if it provides the item now and didn't before, or the other
-/// way round.
+/// Adds a directory to those that moved, if it provides the item now and didn't before, or the
+/// other way round.
 fn note_move<Y: Layout, A: Atoms, B: Before>(
     layout: &Y,
     atoms: &A,
@@ -135,7 +136,8 @@ fn note_move<Y: Layout, A: Atoms, B: Before>(
     moved: &mut Vec<Number>,
 ) -> Result<(), Memory>
     ensures { OnOk result ((d : ℕ) → has moved.new.items d ≡ (has moved.old.items d || (dir == d
-        && not (beq (provide (B.state before.now) (column (links (B.state before.now)) item) dir item)
+        && not (beq
+        (provide (B.state before.now) (column (links (B.state before.now)) item) dir item)
         (provide (Y.state layout.now)
         (is_linked (told news.now (verdict_of (B.state before.now) item))) dir item))))) }
 {

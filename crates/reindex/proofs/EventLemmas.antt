@@ -1,18 +1,22 @@
 -- Behind which events items only move, and behind which they are gone: for the crate above, which knows events.
 use Rattle.std.proofs.Common.{◌≡◌, ℕ, Bool, true, false, List, ap, eq-eqb, refl, subst, sym, ◌∙◌}
-use Rattle.std.proofs.lemmas.Bool.{eqb-true}
-use Rattle.std.specs.Prelude.{◌==◌, ◌||◌, if◌then◌else◌, IsTrue, Option, Some, None}
+use Rattle.std.proofs.Math.Bool.{or-true}
+use Rattle.std.proofs.lemmas.Bool.{and_parts, eqb-true}
+use Rattle.std.specs.Prelude.{◌==◌, ◌||◌, filter, if◌then◌else◌, not, IsTrue, Option, Some, None, option_and_then}
 use Rattle.std.specs.Option.{option_map, option_map_or}
 use Rattle.hac_model.specs.Tree.Events.{accepted, apply, edited, forgetting, is_possible, removed, reseated}
 use Rattle.hac_model.specs.Tree.Limits.{passed_limit}
 use Rattle.hac_model.specs.Tree.Links.{is_item, is_semantic, parent_of}
+use Rattle.hac_model.specs.Tree.Mounting.{forgetting_such, is_of_mount, is_such_at}
 use Rattle.hac_model.specs.Tree.Touched.{begins, is_the, touches}
+use Rattle.hac_model.specs.Tree.Valid.{NumbersRise}
 use Rattle.hac_model.specs.Tree.{entry_at, is_document_at, is_linkable}
 use Rattle.hac_model.specs.declared.events.Event.{Event}
-use Rattle.hac_model.specs.declared.events.Event.TheVariants.{Mv, Rm}
+use Rattle.hac_model.specs.declared.events.Event.TheVariants.{Mv, Rm, Sumount}
 use Rattle.hac_model.specs.declared.states.Entry.{Entry}
 use Rattle.hac_model.specs.declared.states.State.{State}
 use Rattle.hac_model.proofs.MapLemmas.{entry_at-mapped}
+use Rattle.hac_model.proofs.MountAskLemmas.{entry_at-filter, passing}
 use Rattle.hac_model.proofs.ValidLemmas.{accepted-parts, move-parts}
 use Rattle.hac_model.proofs.ViewLemmas.{seen-changed, seen-kept, seen-removed}
 use Rattle.reindex.specs.Moves.{OnlyMoves}
@@ -74,3 +78,29 @@ rm-gone s entry item is = ap (is_item (apply s (Rm entry))) (eqb-true item entry
 pub gone-removed : (s : State) (event : Event) (entry : ℕ) → event ≡ Rm entry → (item : ℕ) → touches s event item ≡ true → is_item (apply s event) item ≡ false
 gone-removed s event entry is item touched =
     subst (λ (e : Event). is_item (apply s e) item ≡ false) (sym is) (rm-gone s entry item (subst (λ (e : Event). touches s e item ≡ true) is touched))
+
+-- So are the documents of a mount that goes.
+
+unmounted-gone : (s : State) (mount item : ℕ) → NumbersRise 0 s.entries s.next → touches s (Sumount mount) item ≡ true → is_item (apply s (Sumount mount)) item ≡ false
+unmounted-gone s mount item rise own =
+    ap (λ (o : Option Entry). option_map_or is_linkable (option_map (λ (e : Entry). e.body) o) false)
+    (entry_at-mapped (forgetting_such (is_such_at (is_of_mount mount) s.entries)) (filter stays s.entries) item
+    ∙ ap (option_map (edited (forgetting_such (is_such_at (is_of_mount mount) s.entries)))) none)
+  where
+    stays : Entry → Bool
+    stays e = not (is_of_mount mount e)
+
+    leaves : (o : Option Entry) → entry_at s.entries item ≡ o → option_and_then (passing stays) o ≡ None
+    leaves None found = refl
+    leaves (Some e) found =
+        let home : (e.parent == mount) ≡ true =
+        ap (λ (o : Option Entry). option_map_or (λ (x : Entry). x.parent) o 0 == mount) (sym found)
+        ∙ (and_parts (is_document_at s.entries item) (parent_of s item == mount) own).1 in
+        ap (λ (b : Bool). if not b then Some e else None) (ap (λ (b : Bool). (e.number == mount) || b) home ∙ or-true (e.number == mount))
+
+    none : entry_at (filter stays s.entries) item ≡ None
+    none = entry_at-filter stays 0 s.entries s.next item rise ∙ leaves (entry_at s.entries item) refl
+
+pub gone-unmounted : (s : State) (event : Event) (mount : ℕ) → NumbersRise 0 s.entries s.next → event ≡ Sumount mount → (item : ℕ) → touches s event item ≡ true → is_item (apply s event) item ≡ false
+gone-unmounted s event mount rise is item touched =
+    subst (λ (e : Event). is_item (apply s e) item ≡ false) (sym is) (unmounted-gone s mount item rise (subst (λ (e : Event). touches s e item ≡ true) is touched))

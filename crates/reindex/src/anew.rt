@@ -106,8 +106,9 @@ fn news_everywhere(
     settle(alloc, &present, &present, &Blank, stops, item)
 }
 
-/// The same, where no directory was added to another: a file is judged where its words may tell, and
-/// nowhere if it was never indexed. Where there are few directories each item is judged in each.
+/// The same, where no directory was added to another: a file is judged where its words may tell,
+/// and nowhere if it was never indexed. Where there are few directories each item is judged in
+/// each.
 fn news_by_words(
     alloc: Global,
     kept: &KeptState,

@@ -1,7 +1,7 @@
-//! Index steps: what is new in the links of files that are indexed, each judged where its words may
-//! tell; all links of a state, found from nothing in the same way; and what is new of an item that
-//! moves, judged where its place may tell, or goes. It has the way on which items are judged, and the
-//! links as they were. It knows no command, no path and no other event.
+//! Index steps: what is new in the links of files that are indexed, each judged where its words
+//! may tell; all links of a state, found from nothing in the same way; and what is new of an item
+//! that moves, judged where its place may tell, or goes. It has the way on which items are
+//! judged, and the links as they were. It knows no command, no path and no other event.
 #![tactic(auto)]
 
 mod anew;

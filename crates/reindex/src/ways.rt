@@ -24,8 +24,8 @@ pub struct Way {
     pub lends: bool,
 }
 
-/// Up to this many directories an item is judged in each: that takes less time than it takes to list
-/// the words of its text.
+/// Up to this many directories an item is judged in each: that takes less time than it takes to
+/// list the words of its text.
 pub(crate) const FEW_STOPS: usize = 16;
 
 /// The way to all semantic directories of a state.

@@ -12,7 +12,8 @@ use std::alloc::Global;
 
 /// The text of a query. It goes down as deep as the query does.
 pub fn query_text(alloc: Global, query: &RawQuery) -> Result<Vec<u8>, Memory>
-    ensures { IfOk result (λ bytes. bytes.items ≡ text.query_text (referred_by word_text query.now)) }
+    ensures { IfOk result
+        (λ bytes. bytes.items ≡ text.query_text (referred_by word_text query.now)) }
 {
     match &query.node {
         Node::Term(term) => term_text(alloc, term),

@@ -1,8 +1,8 @@
-//! What a kept state answers: the links that queries found, the marks that users made, which queries
-//! name a directory, what the mounts have to be asked for a query, and the data lines of commands
-//! that read. Links are taken as they are kept, none is found here and no text is read for one; what
-//! spaces answer is kept nowhere. It knows no line of a script and no refusal, and of a command only
-//! what its paths lead to.
+//! What a kept state answers: the links that queries found, the marks that users made, which
+//! queries name a directory, what the mounts have to be asked for a query, and the data lines of
+//! commands that read. Links are taken as they are kept, none is found here and no text is read
+//! for one; what spaces answer is kept nowhere. It knows no line of a script and no refusal, and
+//! of a command only what its paths lead to.
 #![tactic(auto)]
 
 mod asking;

@@ -3,7 +3,8 @@ ghost use Rattle.std.specs.Prelude.{◌≡◌, ◌<◌, drop, length};
 ghost use Rattle.hac_model.specs.Query.Queries.{query_meaning};
 ghost use Rattle.hac_model.specs.Query.Terms.{is_same_term};
 ghost use Rattle.hac_model.specs.Tree.Links.{column, links, provide};
-ghost use Rattle.tree_answers.specs.Asked.{atom_told, first_tells, is_document_told, tells, was_told};
+ghost use Rattle.tree_answers.specs.Asked.{atom_told, first_tells, is_document_told, tells};
+ghost use Rattle.tree_answers.specs.Asked.{was_told};
 
 use crate::asking::Question;
 use crate::finding::Sight;

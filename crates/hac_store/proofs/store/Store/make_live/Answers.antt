@@ -1,3 +1,5 @@
+use Rattle.std.proofs.Common.{ℕ, ◌^◌, ◌<◌, List, length, subst, sym}
+use Rattle.hac_model.proofs.StateLengthLemmas.{states-short}
 use Rattle.hac_store.proofs.LiveLemmas.{filling-moments, flipped-made, flipped-stands, opening-moments}
 use Rattle.hac_store.proofs.LiveLemmas.{part-head, place-head, place-starts, writing-moments}
 use Rattle.hac_store.proofs.store.Store.make_live.Goals as goal
@@ -7,6 +9,11 @@ write_area-requires-clause-place g c =
     let sound = c.root-live.ensures in
     place-starts c.args.self.now c.args.at sound.order c.requires.free (g.D.Disk.seen c.args.disk.now)
     c.requires.place
+
+pub write_area-requires-clause-size : goal.write_area-requires-clause-size
+write_area-requires-clause-size g c =
+    subst (λ (payload : List ℕ). length payload < 2 ^ 32) (sym c.requires.text)
+    (states-short c.args.self.now.setting.state c.root-live.ensures.valid)
 
 pub close_and_fill-requires-clause-head : goal.close_and_fill-requires-clause-head
 close_and_fill-requires-clause-head g c =
