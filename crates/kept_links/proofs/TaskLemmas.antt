@@ -34,10 +34,10 @@ use Rattle.reeval.proofs.PlanLemmas.{begins-more, no-item, unmoved, unjudged-sai
 use Rattle.reeval.proofs.SettleLemmas.{has-among}
 use Rattle.kept_links.specs.Items.{is_passed_over, others}
 use Rattle.kept_links.specs.Kept.{is_still}
-use Rattle.kept_links.specs.Tasks.{AreAlong, IsTaskOf, IsWayFrom, begins_touched, only_at}
+use Rattle.kept_links.specs.Tasks.{AreAlong, IsTaskOf, IsWayFrom, begins_touched}
 use Rattle.reindex.specs.Past.{Lead}
 use Rattle.reindex.specs.Steps.{AreSettled}
-use Rattle.reindex.specs.Ways.{IsWayOver, IsWayOf, with_first, stops_at, stops_everywhere}
+use Rattle.reindex.specs.Ways.{IsWayOver, IsWayOf, begun_at, leans, with_first, stops_at, stops_everywhere}
 use Rattle.reindex.specs.declared.ways.Way.{Way}
 use Rattle.kept_links.proofs.EdgeLemmas.{edges-still, lends-still}
 use Rattle.kept_links.proofs.ItemLemmas.{in-neither, others-once, others-untouched, touched-apart, touched-once, touched-touches}
@@ -45,7 +45,7 @@ use Rattle.kept_links.proofs.NewDirLemmas.{passed-over}
 use Rattle.kept_links.proofs.SemanticLemmas.{asks-still, semantic-still}
 use Rattle.kept_links.proofs.MarkLemmas.{mark-begins, mark-leaves}
 use Rattle.reindex.proofs.SettledLemmas.{leads-if}
-use Rattle.reindex.proofs.WayLemmas.{covers-at, covers-everywhere, covers-from, depends-semantic, semantic-depends, way-over}
+use Rattle.reindex.proofs.WayLemmas.{begun-way, covers-at, covers-everywhere, covers-from, depends-semantic, leans-well, semantic-depends, way-over}
 
 -- an order over the same edges
 ordered-same : (edges other : ℕ → List ℕ) → ((n : ℕ) → edges n ≡ other n) → (ns : List ℕ) → IsOrdered edges ns → IsOrdered other ns
@@ -99,25 +99,27 @@ passed-still s (Cd session parent) valid ok item over dir = absurd cc
 
 -- The stops of an item that is touched.
 
-pub only-marked : (dir : ℕ) (order : List ℕ) → only_at dir (stops_everywhere order) ≡ stops_at (λ d. d == dir) order
-only-marked dir [] = refl
-only-marked dir (first ∷ order) = ap (λ (stops : List Stop). record { dir = first; begins = first == dir } ∷ stops) (only-marked dir order)
+pub only-if : (event : Event) (mark : MarkData) (stops all : List Stop) (result : Result (Vec Stop Global) Memory) → event ≡ Mark mark → stops ≡ all →
+    IfOk result (λ only. only.items ≡ begun_at (λ other. other == mark.dir) stops) → IfOk result (λ only. only.items ≡ begun_at (begins_touched event) all)
+only-if event mark stops all (Ok only) is same each = each ∙ ap (begun_at (λ other. other == mark.dir)) same ∙ sym (ap (λ (e : Event). begun_at (begins_touched e) all) is)
+only-if event mark stops all (Err memory) is same each = tt
 
-pub only-if : (event : Event) (mark : MarkData) (stops : List Stop) (order : List ℕ) (result : Result (Vec Stop Global) Memory) → event ≡ Mark mark → stops ≡ stops_everywhere order →
-    IfOk result (λ only. only.items ≡ only_at mark.dir stops) → IfOk result (λ only. only.items ≡ stops_at (begins_touched event) order)
-only-if event mark stops order (Ok only) is all each = each ∙ ap (only_at mark.dir) all ∙ only-marked mark.dir order ∙ sym (ap (λ (e : Event). stops_at (begins_touched e) order) is)
-only-if event mark stops order (Err memory) is all each = tt
+-- where judging begins at each, it does so already
+pub begun-anyway : (s : State) (way : Way) → IsWayOf s way → begun_at (λ dir. true) way.stops.items ≡ way.stops.items
+begun-anyway s way w = begun-way s way w (λ dir. true) ∙ sym w.stops
 
 -- one that an event touches which is no mark is judged at each directory
-covers-all : (s : State) (event : Event) → IsValid s → IsTrue (accepted s event) → (way : Way) (w : IsWayOf (apply s event) way) (item : ℕ) → touches s event item ≡ true → Covers s (apply s event) (stops_everywhere w.order) item
+covers-all : (s : State) (event : Event) → IsValid s → IsTrue (accepted s event) → (way : Way) (w : IsWayOf (apply s event) way) (item : ℕ) → touches s event item ≡ true → Covers s (apply s event) (stops_everywhere (apply s event) w.order) item
 covers-all s event valid ok way w item is =
-    covers-everywhere s (apply s event) w.order item (links-judged s valid item) (apply-valid s event valid ok) w.ordered w.all (λ dir plain. semantic-still s valid event ok item is dir ∙ plain)
+    covers-everywhere s (apply s event) (leans (apply s event)) w.order item (links-judged s valid item) (apply-valid s event valid ok) w.ordered w.all
+    (leans-well (apply s event) (apply s event) way w (λ dir. refl)) (λ dir plain. semantic-still s valid event ok item is dir ∙ plain)
 
-covers-begun : (s : State) (event : Event) → IsValid s → IsTrue (accepted s event) → (way : Way) (w : IsWayOf (apply s event) way) (item : ℕ) → touches s event item ≡ true → Covers s (apply s event) (stops_at (begins_touched event) w.order) item
+covers-begun : (s : State) (event : Event) → IsValid s → IsTrue (accepted s event) → (way : Way) (w : IsWayOf (apply s event) way) (item : ℕ) → touches s event item ≡ true → Covers s (apply s event) (stops_at (begins_touched event) (leans (apply s event)) w.order) item
 covers-begun s (Mark mark) valid ok way w item is =
     let here = and_parts (item == mark.item) (is_item s item) is in
-    subst (λ (n : ℕ). Covers s (apply s (Mark mark)) (stops_at (λ dir. dir == mark.dir) w.order) n) (sym (eqb-true item mark.item here.0))
-    (covers-at s (apply s (Mark mark)) (λ dir. dir == mark.dir) w.order mark.item (links-judged s valid mark.item) (apply-valid s (Mark mark) valid ok) w.ordered w.all (mark-begins s mark valid ok) (mark-leaves s mark valid ok))
+    subst (λ (n : ℕ). Covers s (apply s (Mark mark)) (stops_at (λ dir. dir == mark.dir) (leans (apply s (Mark mark))) w.order) n) (sym (eqb-true item mark.item here.0))
+    (covers-at s (apply s (Mark mark)) (λ dir. dir == mark.dir) (leans (apply s (Mark mark))) w.order mark.item (links-judged s valid mark.item) (apply-valid s (Mark mark) valid ok) w.ordered w.all
+    (leans-well (apply s (Mark mark)) (apply s (Mark mark)) way w (λ dir. refl)) (mark-begins s mark valid ok) (mark-leaves s mark valid ok))
 covers-begun s (Smkdir parent name query told) valid ok way w item is = covers-all s (Smkdir parent name query told) valid ok way w item is
 covers-begun s (Mkdir parent name) valid ok way w item is = covers-all s (Mkdir parent name) valid ok way w item is
 covers-begun s (NewFile parent name text) valid ok way w item is = covers-all s (NewFile parent name text) valid ok way w item is
@@ -168,7 +170,7 @@ module _ (s : State) (event : Event) (valid : IsValid s) (ok : IsTrue (accepted 
     | false ↦ (λ untouched. unmoved s t item (record {
       before = links-judged s valid item;
       after = next-valid;
-      route = record { ordered = tt; closed = λ d e edge inside. inside };
+      route = record { ordered = tt; closed = λ d e edge inside. inside; alone = tt };
       alike = begins-more s t item (begins s event) (λ d. false) (λ d _. never d) (events-leave s event valid ok item untouched);
     }) dir)
   ] refl
@@ -198,13 +200,13 @@ module _ (s : State) (event : Event) (valid : IsValid s) (ok : IsTrue (accepted 
       in-others : (item : ℕ) → Among task.others.items item → Among (others s event) item
       in-others item within = subst (λ (items : List ℕ). Among items item) are within
 
-  pub task-touched : (task : Task) (way : Way) → task.touched.items ≡ touched s event → (w : IsWayOf t way) → task.everywhere.items ≡ stops_at (begins_touched event) w.order → ((dir : ℕ) → begins s event dir ≡ false) → task.others.items ≡ [] → IsTaskOf s event task
+  pub task-touched : (task : Task) (way : Way) → task.touched.items ≡ touched s event → (w : IsWayOf t way) → task.everywhere.items ≡ begun_at (begins_touched event) way.stops.items → ((dir : ℕ) → begins s event dir ≡ false) → task.others.items ≡ [] → IsTaskOf s event task
   task-touched task way is w where_touched never none = record {
     touched = subst EachOnce (sym is) (touched-once s event);
     others = subst EachOnce (sym none) tt;
     apart = λ item inside within. nobody item within;
     planned = record {
-      touched = λ item inside. subst (λ (stops : List Stop). Covers s t stops item) (sym where_touched) (covers-begun s event valid ok way w item (touched-touches s event item (subst (λ (items : List ℕ). Among items item) is inside)));
+      touched = λ item inside. subst (λ (stops : List Stop). Covers s t stops item) (sym (where_touched ∙ begun-way t way w (begins_touched event))) (covers-begun s event valid ok way w item (touched-touches s event item (subst (λ (items : List ℕ). Among items item) is inside)));
       others = λ item within. absurd (nobody item within);
       rest = λ item out away dir. stays never item (λ inside. out (subst (λ (items : List ℕ). Among items item) (sym is) inside)) dir;
     };
@@ -221,14 +223,21 @@ module _ (s : State) (event : Event) (valid : IsValid s) (ok : IsTrue (accepted 
     order = w.order;
     ordered = ordered-same (depends s) (depends t) (edges-still s valid event ok never) w.order w.ordered;
     all = λ dir some. w.all dir (λ none. some (sym (edges-still s valid event ok never dir) ∙ none));
-    stops = w.stops;
+    only = λ dir inside none. w.only dir inside (edges-still s valid event ok never dir ∙ none);
+    stops = w.stops ∙ (λ i. stops_at (λ dir. true) (λ dir. leans-still dir i) w.order);
     index = subst (λ (queries : List (Option (Formula ℕ))). IsIndexOf queries way.index) (λ i. map (λ dir. asks-still s valid event ok dir (never dir) i) w.order) w.index;
     lends = λ not_any dir. lends-still s valid event ok never dir (w.lends not_any dir);
   }
+    where
+      asked-still : (dir : ℕ) → is_semantic s dir ≡ is_semantic t dir
+      asked-still dir = ap (λ (o : Option (Formula ℕ)). is_some o) (asks-still s valid event ok dir (never dir))
+
+      leans-still : (dir : ℕ) → leans s dir ≡ leans t dir
+      leans-still dir = λ i. list_any (λ d. asked-still d i) (edges-still s valid event ok never dir i)
 
   -- or was found from where it begins
   pub way-found : (way : Way) (first : ℕ) → ((dir : ℕ) → begins s event dir ≡ (dir == first)) → IsWayFrom s t first way → IsWayOf t way
-  way-found way first begun w = way-over t w.order way w.over w.cone.ordered there
+  way-found way first begun w = way-over t w.order way w.over w.cone.ordered there (λ dir inside. (w.cone.reached dir inside).0)
     where
       among-dirs : (dir : ℕ) → is_semantic t dir ≡ true → Among w.dirs dir
       among-dirs dir is = elim (dir == first) as (λ b. (dir == first) ≡ b → Among w.dirs dir) [

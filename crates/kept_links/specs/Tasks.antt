@@ -33,10 +33,6 @@ abbrev pub begins_touched : Event → ℕ → Bool
 begins_touched (Mark mark) dir = dir == mark.dir
 begins_touched other dir = true
 
--- the stops at directories, where judging begins at one of them
-abbrev pub only_at : ℕ → List Stop → List Stop
-only_at dir stops = map (λ stop. record { dir = stop.dir; begins = stop.dir == dir }) stops
-
 -- the task has each item once, and all that an event wants judged
 pub record IsTaskOf (s : State) (event : Event) (task : Task) : Type 0 where
   pub touched : EachOnce task.touched.items

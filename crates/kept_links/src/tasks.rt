@@ -1,10 +1,11 @@
 //! What is judged again after an event, and on which ways.
-ghost use Rattle.std.specs.Prelude.{◌≡◌, ◌==◌, ℕ, IfOk, IsTrue, List, false};
+ghost use Rattle.std.specs.Prelude.{◌≡◌, ◌==◌, ℕ, IfOk, IsTrue, false};
 ghost use Rattle.hac_model.specs.Tree.Events.{accepted, apply};
 ghost use Rattle.hac_model.specs.Tree.Touched.{begins};
-ghost use Rattle.kept_links.specs.Tasks.{AreAlong, IsTaskOf, IsWayFrom, begins_touched, only_at};
+ghost use Rattle.hac_model.specs.declared.states.State.{State};
+ghost use Rattle.kept_links.specs.Tasks.{AreAlong, IsTaskOf, IsWayFrom, begins_touched};
 ghost use Rattle.kept_state.specs.After.{next_state};
-ghost use Rattle.reindex.specs.Ways.{IsWayOf, stops_at, stops_everywhere};
+ghost use Rattle.reindex.specs.Ways.{IsWayOf, begun_at};
 
 use crate::items::{other_items, touched_items};
 use crate::outlook::Outlook;
@@ -40,8 +41,9 @@ pub(crate) fn task_of_touched(
 
 /// The stops of the items that an event touches.
 fn stops_of_touched(alloc: Global, way: &Way, event: &Event) -> Result<Vec<Stop>, Memory>
-    ensures { (order : List ℕ) → way.now.stops.items ≡ stops_everywhere order
-        → IfOk result (λ stops. stops.items ≡ stops_at (begins_touched event.now) order) }
+    requires { (s : State) × IsWayOf s way.now }
+    ensures { IfOk result (λ stops.
+        stops.items ≡ begun_at (begins_touched event.now) way.now.stops.items) }
 {
     match event {
         Event::Mark(mark) => stops_only(alloc, way.stops.as_slice(), mark.dir),
@@ -51,13 +53,13 @@ fn stops_of_touched(alloc: Global, way: &Way, event: &Event) -> Result<Vec<Stop>
 
 /// The same stops, where judging begins at one directory.
 fn stops_only(alloc: Global, stops: &[Stop], dir: Number) -> Result<Vec<Stop>, Memory>
-    ensures { IfOk result (λ only. only.items ≡ only_at dir stops.now) }
+    ensures { IfOk result (λ only. only.items ≡ begun_at (λ other. other == dir) stops.now) }
 {
     let mut only = Vec::new(alloc);
     for stop in stops {
         only.push(Stop {
-            dir: stop.dir,
             begins: stop.dir == dir,
+            ..*stop
         })?;
     }
     Ok(only)

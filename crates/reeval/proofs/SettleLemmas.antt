@@ -1,7 +1,7 @@
 -- The verdicts on one item, directory by directory, on a way that leads to each behind those on which it depends.
 use Rattle.std.proofs.Common.{◌≡◌, ℕ, zero, suc, Bool, true, false, List, [], ◌∷◌, refl, ap, sym, subst, ◌∙◌, arith, eq-eqb, inl, inr}
 use Rattle.std.proofs.Math.Bool.{beq}
-use Rattle.std.proofs.lemmas.Bool.{eqb-true}
+use Rattle.std.proofs.lemmas.Bool.{and_parts, eqb-true}
 use Rattle.std.specs.Prelude.{◌&&◌, ◌||◌, ◌==◌, ◌++◌, ◌⊎◌, not, if◌then◌else◌, Some, None, drop, is_some, length}
 use Rattle.std.specs.List.{list_any}
 use Rattle.std.specs.Option.{option_map_or}
@@ -100,6 +100,11 @@ begins-there edges (first ∷ stops) (suc i) stop rest ordered is out =
     there [] (suc i) is = absurd cc
     there (first ∷ stops) (suc i) is = inr (there stops i is)
 
+-- no number passes a test that each of them fails
+none-any : (p : ℕ → Bool) (ns : List ℕ) → ((n : ℕ) → Among ns n → p n ≡ false) → list_any p ns ≡ false
+none-any p [] fails = refl
+none-any p (n ∷ ns) fails = λ i. fails n (inl refl) i || none-any p ns (λ m among. fails m (inr among)) i
+
 module _ (s t : State) (item : ℕ) (stops : List Stop) (covers : Covers s t stops item) where
   abbrev pub before : ℕ → Verdict
   before = verdict_of s item
@@ -115,6 +120,7 @@ module _ (s t : State) (item : ℕ) (stops : List Stop) (covers : Covers s t sto
   -- what they said
   pub record Settled (left : List ℕ) (known : ℕ → Verdict) (moved : List ℕ) : Type 0 where
     pub ordered : IsOrdered (depends t) left
+    pub within : (e : ℕ) → has moved e ≡ true → has dirs e ≡ true
     pub inside : (dir : ℕ) → has left dir ≡ true → has dirs dir ≡ true
     pub judged : (dir : ℕ) → passed left dir ≡ true → known dir ≡ judgement t (is_linked known) item dir
     pub others : (dir : ℕ) → passed left dir ≡ false → known dir ≡ before dir
@@ -125,6 +131,7 @@ module _ (s t : State) (item : ℕ) (stops : List Stop) (covers : Covers s t sto
   pub settled-none : Settled dirs before []
   settled-none = record {
     ordered = covers.route.ordered;
+    within = λ e never. absurd cc;
     inside = λ dir is. is;
     judged = λ dir is. absurd (never dir is);
     others = λ dir out. refl;
@@ -208,10 +215,19 @@ module _ (s t : State) (item : ℕ) (stops : List Stop) (covers : Covers s t sto
       | inr was ↦ narrower e (h.ahead d e was edge)
     ]
 
+    -- it depends on nothing that moved, if none of the way is leant on
+    pub leans-none : (leans : Bool) → (leans ≡ false → (e : ℕ) → Among (depends t dir) e → ¬ Among dirs e) → (leans && list_any (has moved) (depends t dir)) ≡ false → list_any (has moved) (depends t dir) ≡ false
+    leans-none true alone out = out
+    leans-none false alone out = none-any (has moved) (depends t dir) (λ e edge. elim (has moved e) as (λ b. has moved e ≡ b → b ≡ false) [
+      | true ↦ (λ is. absurd (alone refl e edge (has-among dirs e (h.within e is))))
+      | false ↦ (λ _. refl)
+    ] refl)
+
     -- it was not judged: nothing begins there, and it leans on nothing that moved
     pub settled-by : begins_at stops dir ≡ false → list_any (has moved) (depends t dir) ≡ false → Settled left known moved
     settled-by begins leans = record {
       ordered = h.ordered.2;
+      within = h.within;
       inside = λ d is. h.inside d (wider d is);
       judged = λ d is. elim (cases d is) as (λ _. known d ≡ judgement t (is_linked known) item d) [
         | inl same ↦ subst (λ (n : ℕ). known n ≡ judgement t (is_linked known) item n) same own
@@ -289,6 +305,10 @@ module _ (s t : State) (item : ℕ) (stops : List Stop) (covers : Covers s t sto
       pub settled-judged : Settled left more moves
       settled-judged = record {
         ordered = h.ordered.2;
+        within = λ e is. elim (has moved e) as (λ b. has moved e ≡ b → has dirs e ≡ true) [
+          | true ↦ (λ was. h.within e was)
+          | false ↦ (λ out. subst (λ (n : ℕ). has dirs n ≡ true) (first-here e (sym (ap (λ (b : Bool). b || (dir == e && not (beq (provide s (is_linked before) dir item) (provide t (is_linked more) dir item)))) out) ∙ sym (noted e) ∙ is)) here)
+        ] refl;
         inside = λ d is. h.inside d (wider d is);
         judged = λ d is. elim (cases d is) as (λ _. more d ≡ judgement t (is_linked more) item d) [
           | inl same ↦ subst (λ (n : ℕ). more n ≡ judgement t (is_linked more) item n) same own
@@ -307,6 +327,9 @@ module _ (s t : State) (item : ℕ) (stops : List Stop) (covers : Covers s t sto
         where
           wider : (d : ℕ) → has left d ≡ true → has (dir ∷ left) d ≡ true
           wider d is = elim (dir == d) as (λ b. (b || has left d) ≡ true) [ true ↦ refl | false ↦ is ]
+
+          first-here : (e : ℕ) → (dir == e && not (beq (provide s (is_linked before) dir item) (provide t (is_linked more) dir item))) ≡ true → dir ≡ e
+          first-here e is = eqb-true dir e (and_parts (dir == e) (not (beq (provide s (is_linked before) dir item) (provide t (is_linked more) dir item))) is).0
 
           unmoved-here : has moves dir ≡ false → provide s (is_linked before) dir item ≡ provide t (is_linked more) dir item
           unmoved-here out =

@@ -26,6 +26,8 @@ pub struct Stop {
     /// It has to be in any case, and not only if one on which it depends provides the item now and
     /// didn't before, or the other way round.
     pub begins: bool,
+    /// It may depend on another directory of the way.
+    pub leans: bool,
 }
 
 /// The verdicts on an item that are new in the next state. The stops come in an order in which each
@@ -48,7 +50,7 @@ pub fn settle<Y: Layout, A: Atoms, B: Before>(
     let mut news = Vec::new(alloc);
     let mut moved = Vec::new(alloc);
     for stop in stops {
-        if stop.begins || leans_on(layout, stop.dir, moved.as_slice()) {
+        if stop.begins || leans_on(layout, stop, moved.as_slice()) {
             judge_anew(layout, atoms, before, stop.dir, item, &mut news)?;
             note_move(
                 layout,
@@ -87,11 +89,20 @@ pub fn settle_all<Y: Layout, A: Atoms, B: Before>(
     Ok(())
 }
 
-/// Whether a directory depends on one of those that moved. Where none moved, nothing is looked up.
-fn leans_on<Y: Layout>(layout: &Y, dir: Number, moved: &[Number]) -> bool
-    ensures { result ≡ list_any (has moved.now) (depends (Y.state layout.now) dir) }
+/// Whether the directory of a stop depends on one of those that moved. Where it depends on no other
+/// of the way, nothing is looked up.
+fn leans_on<Y: Layout>(layout: &Y, stop: &Stop, moved: &[Number]) -> bool
+    ensures { result ≡ (stop.now.leans
+        && list_any (has moved.now) (depends (Y.state layout.now) stop.now.dir)) }
 {
-    !moved.is_empty() && layout.depends(dir).iter().any(|dir| moved.contains(dir))
+    stop.leans && depends_on(layout, stop.dir, moved)
+}
+
+/// Whether a directory depends on one of these. Where there are none, nothing is looked up.
+fn depends_on<Y: Layout>(layout: &Y, dir: Number, dirs: &[Number]) -> bool
+    ensures { result ≡ list_any (has dirs.now) (depends (Y.state layout.now) dir) }
+{
+    !dirs.is_empty() && layout.depends(dir).iter().any(|above| dirs.contains(above))
 }
 
 /// Judges an item in a directory, and adds what it says to the news if that is new.

@@ -25,10 +25,10 @@ use Rattle.reeval.specs.declared.settling.Stop.{Stop}
 use Rattle.reeval.proofs.AlikeLemmas.{judge-across, none-across, unfound-across}
 use Rattle.reeval.proofs.JudgeLemmas.{links-judged}
 use Rattle.reindex.specs.Steps.{indexed_through, may_begin, may_differ}
-use Rattle.reindex.specs.Ways.{IsWayOf, stops_at, stops_everywhere, stops_marked}
+use Rattle.reindex.specs.Ways.{IsWayOf, begun_at, leans, stops_marked}
 use Rattle.reindex.specs.declared.ways.Way.{Way}
 use Rattle.reindex.proofs.IndexedLemmas.{added-indexed, below-indexed, depends-indexed, document-indexed, item-indexed, lenders-indexed, parent-indexed, permanent-indexed, prohibited-indexed, query-indexed, semantic-indexed}
-use Rattle.reindex.proofs.WayLemmas.{covers-at, covers-everywhere, semantic-depends}
+use Rattle.reindex.proofs.WayLemmas.{begun-way, covers-at, covers-everywhere, leans-well, semantic-depends}
 
 -- what shows a text is no document
 pub text-no-document : (o : Option Body) (text : List ℕ) → option_and_then shown_text o ≡ Some text → option_map_or is_document o false ≡ false
@@ -115,14 +115,15 @@ module _ (s : State) (last file : ℕ) (text : List ℕ) (shows : shown_of (inde
       at (Some asked) h = refl
 
   -- on the way to all semantic directories the file is judged wherever its words may tell
-  pub covered-text : (way : Way) (w : IsWayOf s way) → IsValid s → IsValid t → Covers s t (stops_at (may_begin s (shown_of s file) text) w.order) file
+  pub covered-text : (way : Way) → IsWayOf s way → IsValid s → IsValid t → Covers s t (begun_at (may_begin s (shown_of s file) text) way.stops.items) file
   covered-text way w before after =
-      covers-at s t (may_begin s (shown_of s file) text) w.order file (links-judged s before file) after
+      subst (λ (stops : List Stop). Covers s t stops file) (sym (begun-way s way w (may_begin s (shown_of s file) text)))
+      (covers-at s t (may_begin s (shown_of s file) text) (leans s) w.order file (links-judged s before file) after
       (subst (λ (edges : ℕ → List ℕ). IsOrdered edges w.order) (λ i dir. sym (depends-indexed last s dir) i) w.ordered)
-      (λ dir some. w.all dir (λ none. some (depends-indexed last s dir ∙ none))) begins-asked texts-leave
+      (λ dir some. w.all dir (λ none. some (depends-indexed last s dir ∙ none))) (leans-well s t way w (depends-indexed last s)) begins-asked texts-leave)
 
-  pub covered-if : (way : Way) (w : IsWayOf s way) → IsValid s → IsValid t → (result : Result (Vec Stop Global) Memory) →
-      IfOk result (λ stops. stops.items ≡ stops_at (may_begin s (shown_of s file) text) w.order) → IfOk result (λ stops. Covers s t stops.items file)
+  pub covered-if : (way : Way) → IsWayOf s way → IsValid s → IsValid t → (result : Result (Vec Stop Global) Memory) →
+      IfOk result (λ stops. stops.items ≡ begun_at (may_begin s (shown_of s file) text) way.stops.items) → IfOk result (λ stops. Covers s t stops.items file)
   covered-if way w before after (Ok stops) is = subst (λ (items : List Stop). Covers s t items file) (sym is) (covered-text way w before after)
   covered-if way w before after (Err memory) is = tt
 
@@ -130,22 +131,22 @@ module _ (s : State) (last file : ℕ) (text : List ℕ) (shows : shown_of (inde
 covered-anyway : (s : State) (last file : ℕ) (way : Way) → IsWayOf s way → IsValid s → IsValid (indexed_through last s) → Covers s (indexed_through last s) way.stops.items file
 covered-anyway s last file way w before after =
     subst (λ (all : List Stop). Covers s (indexed_through last s) all file) (sym w.stops)
-    (covers-everywhere s (indexed_through last s) w.order file (links-judged s before file) after (subst (λ (edges : ℕ → List ℕ). IsOrdered edges w.order) (λ i dir. sym (depends-indexed last s dir) i) w.ordered)
-    (λ dir some. w.all dir (λ none. some (depends-indexed last s dir ∙ none))) (λ dir plain. sym (semantic-indexed last s dir) ∙ plain))
+    (covers-everywhere s (indexed_through last s) (leans s) w.order file (links-judged s before file) after (subst (λ (edges : ℕ → List ℕ). IsOrdered edges w.order) (λ i dir. sym (depends-indexed last s dir) i) w.ordered)
+    (λ dir some. w.all dir (λ none. some (depends-indexed last s dir ∙ none))) (leans-well s (indexed_through last s) way w (depends-indexed last s)) (λ dir plain. sym (semantic-indexed last s dir) ∙ plain))
 
 pub covered-anyway-if : (s : State) (last file : ℕ) (way : Way) → IsWayOf s way → IsValid s → IsValid (indexed_through last s) → (result : Result (Vec Stop Global) Memory) →
     IfOk result (λ stops. stops.items ≡ way.stops.items) → IfOk result (λ stops. Covers s (indexed_through last s) stops.items file)
 covered-anyway-if s last file way w before after (Ok stops) is = subst (λ (items : List Stop). Covers s (indexed_through last s) items file) (sym is) (covered-anyway s last file way w before after)
 covered-anyway-if s last file way w before after (Err memory) is = tt
 
--- marks, query by query, are stops at the directories
-pub marked-all : (s : State) (old : Option (List ℕ)) (new : List ℕ) (order : List ℕ) →
-    stops_marked (stops_everywhere order) (map (λ query. option_map_or (may_differ old new) query false) (map (query_at s) order)) ≡ stops_at (may_begin s old new) order
+-- marks, query by query, say where judging begins
+marked-all : (s : State) (old : Option (List ℕ)) (new : List ℕ) (stops : List Stop) →
+    stops_marked stops (map (λ query. option_map_or (may_differ old new) query false) (map (query_at s) (dirs_of stops))) ≡ begun_at (may_begin s old new) stops
 marked-all s old new [] = refl
-marked-all s old new (dir ∷ order) = ap (λ (stops : List Stop). record { dir = dir; begins = may_begin s old new dir } ∷ stops) (marked-all s old new order)
+marked-all s old new (stop ∷ stops) = ap (λ (more : List Stop). record stop { begins = may_begin s old new stop.dir } ∷ more) (marked-all s old new stops)
 
-pub marked-if : (s : State) (old : Option (List ℕ)) (new : List ℕ) (order : List ℕ) (result : Result (Vec Stop Global) Memory) (stops : List Stop) (marks : List Bool) → stops ≡ stops_everywhere order →
-    marks ≡ map (λ query. option_map_or (may_differ old new) query false) (map (query_at s) order) →
-    IfOk result (λ marked. marked.items ≡ stops_marked stops marks) → IfOk result (λ marked. marked.items ≡ stops_at (may_begin s old new) order)
-marked-if s old new order (Ok marked) stops marks all each is = is ∙ (λ i. stops_marked (all i) (each i)) ∙ marked-all s old new order
-marked-if s old new order (Err memory) stops marks all each is = tt
+pub marked-if : (s : State) (old : Option (List ℕ)) (new : List ℕ) (result : Result (Vec Stop Global) Memory) (all stops : List Stop) (marks : List Bool) → stops ≡ all →
+    marks ≡ map (λ query. option_map_or (may_differ old new) query false) (map (query_at s) (dirs_of all)) →
+    IfOk result (λ marked. marked.items ≡ stops_marked stops marks) → IfOk result (λ marked. marked.items ≡ begun_at (may_begin s old new) all)
+marked-if s old new (Ok marked) all stops marks same each is = is ∙ (λ i. stops_marked (same i) (each i)) ∙ marked-all s old new all
+marked-if s old new (Err memory) all stops marks same each is = tt

@@ -24,11 +24,11 @@ use Rattle.reeval.proofs.AlikeLemmas.{none-across, unfound-across}
 use Rattle.reeval.proofs.PlanLemmas.{empty-judged, unjudged-said}
 use Rattle.reindex.specs.Anew.{LendsNothing, never_indexed, unjudged_state}
 use Rattle.reindex.specs.Steps.{may_begin, may_differ}
-use Rattle.reindex.specs.Ways.{IsWayOf, stops_at}
+use Rattle.reindex.specs.Ways.{IsWayOf, begun_at, leans}
 use Rattle.reindex.specs.declared.ways.Way.{Way}
 use Rattle.reindex.proofs.LeftLemmas.{Leaves, added-left, below-left, entry_at-left, item-left, lenders-left, query-left, semantic-left}
 use Rattle.reindex.proofs.TextLemmas.{all-by, text-no-document}
-use Rattle.reindex.proofs.WayLemmas.{covers-at, covers-everywhere, semantic-depends}
+use Rattle.reindex.proofs.WayLemmas.{begun-way, covers-at, covers-everywhere, leans-well, semantic-depends}
 
 -- the body of an entry then
 abbrev other_body : Entry → Body
@@ -149,7 +149,7 @@ module _ (s : State) where
     pub covers-anywhere : IsValid s → (way : Way) → IsWayOf s way → (item : ℕ) → Covers u s way.stops.items item
     covers-anywhere valid way w item =
         subst (λ (stops : List Stop). Covers u s stops item) (sym w.stops)
-        (covers-everywhere u s w.order item (none-judged item) valid w.ordered w.all (λ dir plain. semantic-left other_body leaves s dir ∙ plain))
+        (covers-everywhere u s (leans s) w.order item (none-judged item) valid w.ordered w.all (leans-well s s way w (λ dir. refl)) (λ dir plain. semantic-left other_body leaves s dir ∙ plain))
 
     -- a file that shows a text
     module _ (file : ℕ) (text : List ℕ) (shows : shown_of s file ≡ Some text) where
@@ -175,13 +175,14 @@ module _ (s : State) where
           at (Some asked) h = refl
 
       -- it is judged wherever its words may tell
-      pub covers-first : IsValid s → (way : Way) (w : IsWayOf s way) → Covers u s (stops_at (may_begin s None text) w.order) file
+      pub covers-first : IsValid s → (way : Way) → IsWayOf s way → Covers u s (begun_at (may_begin s None text) way.stops.items) file
       covers-first valid way w =
-          covers-at u s (may_begin s None text) w.order file (none-judged file) valid w.ordered w.all begins-asked
-          (record { judges = judges; provides = λ dir e still edge apart. provides e })
+          subst (λ (stops : List Stop). Covers u s stops file) (sym (begun-way s way w (may_begin s None text)))
+          (covers-at u s (may_begin s None text) (leans s) w.order file (none-judged file) valid w.ordered w.all (leans-well s s way w (λ dir. refl)) begins-asked
+          (record { judges = judges; provides = λ dir e still edge apart. provides e }))
 
 -- an item that is judged at each directory, where nothing was known of any
 pub covers-blank : (s : State) → IsValid s → (way : Way) → IsWayOf s way → (item : ℕ) → Covers empty s way.stops.items item
 covers-blank s valid way w item =
     subst (λ (stops : List Stop). Covers empty s stops item) (sym w.stops)
-    (covers-everywhere empty s w.order item (empty-judged item) valid w.ordered w.all (λ dir plain. refl))
+    (covers-everywhere empty s (leans s) w.order item (empty-judged item) valid w.ordered w.all (leans-well s s way w (λ dir. refl)) (λ dir plain. refl))

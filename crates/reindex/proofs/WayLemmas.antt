@@ -3,7 +3,7 @@ use Rattle.std.proofs.Common.{◌≡◌, ℕ, zero, suc, ◌+◌, ◌<◌, Bool,
 use Rattle.std.proofs.lemmas.Bool.{eqb-true}
 use Rattle.std.proofs.lemmas.List.{map_more}
 use Rattle.std.specs.Prelude.{◌&&◌, ◌||◌, ◌==◌, ◌++◌, ◌≢◌, if◌then◌else◌, filter, map, not, take, IfOk, Option, Some, None, Result, Ok, Err, is_some, option_and_then}
-use Rattle.std.specs.List.{list_any}
+use Rattle.std.specs.List.{AllByRecursion, list_any}
 use Rattle.std.specs.Option.{option_map, option_map_or}
 use Rattle.dep_graph.specs.Searches.{IsCone, IsOrdered}
 use Rattle.hac_model.specs.Query.Formula.{Formula}
@@ -22,7 +22,8 @@ use Rattle.reeval.proofs.AlikeLemmas.{touched-leave}
 use Rattle.reeval.proofs.JudgeLemmas.{links-judged}
 use Rattle.reeval.proofs.PlanLemmas.{begins-more}
 use Rattle.reeval.proofs.SettleLemmas.{among-has}
-use Rattle.reindex.specs.Ways.{IsWayOf, IsWayOver, stops_at, stops_everywhere, stops_from, with_first}
+use Rattle.reindex.specs.Ways.{IsWayOf, IsWayOver, begun_at, leans, stops_at, stops_from, with_first}
+use Rattle.reeval.specs.declared.settling.Stop.{Stop}
 use Rattle.reindex.specs.declared.ways.Way.{Way}
 
 -- what has edges isn't without
@@ -32,14 +33,19 @@ some-edges (edge ∷ edges) n h = λ none. absurd cc
 
 -- Stops.
 
-pub dirs-at : (begins : ℕ → Bool) (dirs : List ℕ) → dirs_of (stops_at begins dirs) ≡ dirs
-dirs-at begins [] = refl
-dirs-at begins (dir ∷ dirs) = ap (λ (more : List ℕ). dir ∷ more) (dirs-at begins dirs)
+pub dirs-at : (begins leans : ℕ → Bool) (dirs : List ℕ) → dirs_of (stops_at begins leans dirs) ≡ dirs
+dirs-at begins leans [] = refl
+dirs-at begins leans (dir ∷ dirs) = ap (λ (more : List ℕ). dir ∷ more) (dirs-at begins leans dirs)
 
-begins-at : (begins : ℕ → Bool) (dirs : List ℕ) (dir : ℕ) → begins_at (stops_at begins dirs) dir ≡ (has dirs dir && begins dir)
-begins-at begins [] dir = refl
-begins-at begins (first ∷ dirs) dir =
-    ap (λ (b : Bool). (first == dir && begins first) || b) (begins-at begins dirs dir)
+-- where judging begins is put anew
+pub begun-stops : (begins other leans : ℕ → Bool) (dirs : List ℕ) → begun_at begins (stops_at other leans dirs) ≡ stops_at begins leans dirs
+begun-stops begins other leans [] = refl
+begun-stops begins other leans (dir ∷ dirs) = ap (λ (more : List Stop). record { dir = dir; begins = begins dir; leans = leans dir } ∷ more) (begun-stops begins other leans dirs)
+
+begins-at : (begins leans : ℕ → Bool) (dirs : List ℕ) (dir : ℕ) → begins_at (stops_at begins leans dirs) dir ≡ (has dirs dir && begins dir)
+begins-at begins leans [] dir = refl
+begins-at begins leans (first ∷ dirs) dir =
+    ap (λ (b : Bool). (first == dir && begins first) || b) (begins-at begins leans dirs dir)
     ∙ (elim (first == dir) as (λ b. (first == dir) ≡ b → ((b && begins first) || (has dirs dir && begins dir)) ≡ ((b || has dirs dir) && begins dir)) [
       | true ↦ (λ same. ap (λ (n : ℕ). begins n || (has dirs dir && begins dir)) (eqb-true first dir same) ∙ absorbed (begins dir) (has dirs dir))
       | false ↦ (λ _. refl)
@@ -50,11 +56,20 @@ begins-at begins (first ∷ dirs) dir =
     absorbed false true = refl
     absorbed false false = refl
 
+-- what doesn't lean on others depends on none of them
+abbrev pub LeansWell : (ℕ → List ℕ) → (ℕ → Bool) → List ℕ → Type 0
+LeansWell edges leans dirs = (dir : ℕ) → leans dir ≡ false → (e : ℕ) → Among (edges dir) e → ¬ Among dirs e
+
+alone-at : (edges : ℕ → List ℕ) (begins leans : ℕ → Bool) (all dirs : List ℕ) → LeansWell edges leans all → AllByRecursion (λ stop. stop.leans ≡ false → (e : ℕ) → Among (edges stop.dir) e → ¬ Among all e) (stops_at begins leans dirs)
+alone-at edges begins leans all [] well = tt
+alone-at edges begins leans all (dir ∷ dirs) well = (well dir, alone-at edges begins leans all dirs well)
+
 -- the way to all directories that depend on something
-route-at : (edges : ℕ → List ℕ) (begins : ℕ → Bool) (dirs : List ℕ) → IsOrdered edges dirs → ((q : ℕ) → edges q ≢ [] → Among dirs q) → IsRoute edges (stops_at begins dirs)
-route-at edges begins dirs ordered all = record {
-  ordered = subst (IsOrdered edges) (sym (dirs-at begins dirs)) ordered;
-  closed = λ dir e edge _. subst (λ (numbers : List ℕ). Among numbers dir) (sym (dirs-at begins dirs)) (all dir (some-edges (edges dir) e edge));
+route-at : (edges : ℕ → List ℕ) (begins leans : ℕ → Bool) (dirs : List ℕ) → IsOrdered edges dirs → ((q : ℕ) → edges q ≢ [] → Among dirs q) → LeansWell edges leans dirs → IsRoute edges (stops_at begins leans dirs)
+route-at edges begins leans dirs ordered all well = record {
+  ordered = subst (IsOrdered edges) (sym (dirs-at begins leans dirs)) ordered;
+  closed = λ dir e edge _. subst (λ (numbers : List ℕ). Among numbers dir) (sym (dirs-at begins leans dirs)) (all dir (some-edges (edges dir) e edge));
+  alone = subst (λ (numbers : List ℕ). AllByRecursion (λ stop. stop.leans ≡ false → (e : ℕ) → Among (edges stop.dir) e → ¬ Among numbers e) (stops_at begins leans dirs)) (sym (dirs-at begins leans dirs)) (alone-at edges begins leans dirs dirs well);
 }
 
 -- Everywhere.
@@ -77,36 +92,36 @@ and-true : (b : Bool) → (b && true) ≡ b
 and-true true = refl
 and-true false = refl
 
-pub covers-everywhere : (s t : State) (dirs : List ℕ) (item : ℕ) → AreJudged s item → IsValid t → IsOrdered (depends t) dirs → ((q : ℕ) → depends t q ≢ [] → Among dirs q) →
-    ((dir : ℕ) → is_semantic t dir ≡ false → is_semantic s dir ≡ false) → Covers s t (stops_everywhere dirs) item
-covers-everywhere s t dirs item before after ordered all plains = record {
+pub covers-everywhere : (s t : State) (leans : ℕ → Bool) (dirs : List ℕ) (item : ℕ) → AreJudged s item → IsValid t → IsOrdered (depends t) dirs → ((q : ℕ) → depends t q ≢ [] → Among dirs q) →
+    LeansWell (depends t) leans dirs → ((dir : ℕ) → is_semantic t dir ≡ false → is_semantic s dir ≡ false) → Covers s t (stops_at (λ dir. true) leans dirs) item
+covers-everywhere s t leans dirs item before after ordered all well plains = record {
   before = before;
   after = after;
-  route = route-at (depends t) (λ dir. true) dirs ordered all;
-  alike = begins-more s t item (λ dir. is_semantic s dir || is_semantic t dir) (begins_at (stops_everywhere dirs)) within (touched-leave s t item);
+  route = route-at (depends t) (λ dir. true) leans dirs ordered all well;
+  alike = begins-more s t item (λ dir. is_semantic s dir || is_semantic t dir) (begins_at (stops_at (λ dir. true) leans dirs)) within (touched-leave s t item);
 }
   where
-    within : (dir : ℕ) → begins_at (stops_everywhere dirs) dir ≡ false → (is_semantic s dir || is_semantic t dir) ≡ false
+    within : (dir : ℕ) → begins_at (stops_at (λ dir. true) leans dirs) dir ≡ false → (is_semantic s dir || is_semantic t dir) ≡ false
     within dir out =
-        let absent : has dirs dir ≡ false = sym (and-true (has dirs dir)) ∙ sym (begins-at (λ dir. true) dirs dir) ∙ out in
+        let absent : has dirs dir ≡ false = sym (and-true (has dirs dir)) ∙ sym (begins-at (λ dir. true) leans dirs dir) ∙ out in
         let plain : is_semantic t dir ≡ false = unasked t dir (λ some. let inside = among-has dirs dir (all dir some) in absurd cc) in
         (λ i. plains dir plain i || plain i)
 
 -- Where judging begins at some directories, all of them on the way.
 
-pub covers-at : (s t : State) (begins : ℕ → Bool) (dirs : List ℕ) (item : ℕ) → AreJudged s item → IsValid t → IsOrdered (depends t) dirs → ((q : ℕ) → depends t q ≢ [] → Among dirs q) →
-    ((dir : ℕ) → begins dir ≡ true → depends t dir ≢ []) → LeavesAlike s t begins item → Covers s t (stops_at begins dirs) item
-covers-at s t begins dirs item before after ordered all asked alike = record {
+pub covers-at : (s t : State) (begins leans : ℕ → Bool) (dirs : List ℕ) (item : ℕ) → AreJudged s item → IsValid t → IsOrdered (depends t) dirs → ((q : ℕ) → depends t q ≢ [] → Among dirs q) →
+    LeansWell (depends t) leans dirs → ((dir : ℕ) → begins dir ≡ true → depends t dir ≢ []) → LeavesAlike s t begins item → Covers s t (stops_at begins leans dirs) item
+covers-at s t begins leans dirs item before after ordered all well asked alike = record {
   before = before;
   after = after;
-  route = route-at (depends t) begins dirs ordered all;
-  alike = begins-more s t item begins (begins_at (stops_at begins dirs)) within alike;
+  route = route-at (depends t) begins leans dirs ordered all well;
+  alike = begins-more s t item begins (begins_at (stops_at begins leans dirs)) within alike;
 }
   where
-    within : (dir : ℕ) → begins_at (stops_at begins dirs) dir ≡ false → begins dir ≡ false
+    within : (dir : ℕ) → begins_at (stops_at begins leans dirs) dir ≡ false → begins dir ≡ false
     within dir out = elim (begins dir) as (λ b. begins dir ≡ b → b ≡ false) [
       | true ↦ (λ is. let inside : has dirs dir ≡ true = among-has dirs dir (all dir (asked dir is)) in
-          let never : begins_at (stops_at begins dirs) dir ≡ true = begins-at begins dirs dir ∙ (λ i. inside i && is i) in
+          let never : begins_at (stops_at begins leans dirs) dir ≡ true = begins-at begins leans dirs dir ∙ (λ i. inside i && is i) in
           absurd cc)
       | false ↦ (λ _. refl)
     ] refl
@@ -148,11 +163,12 @@ module _ (edges : ℕ → List ℕ) (first : ℕ) (cone : List ℕ) (h : IsCone 
 
   pub route-from : IsRoute edges (stops_from first dirs)
   route-from = record {
-    ordered = subst (IsOrdered edges) (sym (dirs-at (λ dir. dir == first) dirs)) ordered;
+    ordered = subst (IsOrdered edges) (sym (dirs-at (λ dir. dir == first) (λ dir. true) dirs)) ordered;
     closed = λ dir e edge is.
-        let way = reaches-first e (subst (λ (numbers : List ℕ). Among numbers e) (dirs-at (λ dir. dir == first) dirs) is) in
-        subst (λ (numbers : List ℕ). Among numbers dir) (sym (dirs-at (λ dir. dir == first) dirs))
+        let way = reaches-first e (subst (λ (numbers : List ℕ). Among numbers e) (dirs-at (λ dir. dir == first) (λ dir. true) dirs) is) in
+        subst (λ (numbers : List ℕ). Among numbers dir) (sym (dirs-at (λ dir. dir == first) (λ dir. true) dirs))
         (inside dir (h.all dir (some-edges (edges dir) e edge) (first, inl refl, (suc way.0, (e, edge, way.1)))));
+    alone = alone-at edges (λ dir. dir == first) (λ dir. true) (dirs_of (stops_from first dirs)) dirs (λ dir never. absurd cc);
   }
 
 pub covers-from : (s t : State) (first : ℕ) (cone : List ℕ) (begins : ℕ → Bool) → IsValid s → IsValid t → IsCone (depends t) (first ∷ []) cone →
@@ -168,7 +184,7 @@ covers-from s t first cone begins before after h is item alike = record {
     within dir out = is dir ∙ (elim (dir == first) as (λ b. (dir == first) ≡ b → b ≡ false) [
       | true ↦ (λ same.
           let there : has (with_first first cone) dir ≡ true = ap (has (with_first first cone)) (eqb-true dir first same) ∙ first-there (depends t) first cone h in
-          let begun : begins_at (stops_from first (with_first first cone)) dir ≡ true = begins-at (λ d. d == first) (with_first first cone) dir ∙ (λ i. there i && same i) in
+          let begun : begins_at (stops_from first (with_first first cone)) dir ≡ true = begins-at (λ d. d == first) (λ d. true) (with_first first cone) dir ∙ (λ i. there i && same i) in
           absurd cc)
       | false ↦ (λ _. refl)
     ] refl)
@@ -234,11 +250,12 @@ none_of None h = refl
 none_of (Some x) h = absurd cc
 
 -- a way over all directories that depend on something is that to all semantic ones
-pub way-over : (t : State) (order : List ℕ) (way : Way) → IsWayOver t order way → IsOrdered (depends t) order → ((dir : ℕ) → depends t dir ≢ [] → Among order dir) → IsWayOf t way
-way-over t order way over ordered all = record {
+pub way-over : (t : State) (order : List ℕ) (way : Way) → IsWayOver t order way → IsOrdered (depends t) order → ((dir : ℕ) → depends t dir ≢ [] → Among order dir) → ((dir : ℕ) → Among order dir → depends t dir ≢ []) → IsWayOf t way
+way-over t order way over ordered all only = record {
   order = order;
   ordered = ordered;
   all = all;
+  only = only;
   stops = over.stops;
   index = over.index;
   lends = λ not_any dir. none-lent not_any dir (is_semantic t dir) refl;
@@ -248,6 +265,23 @@ way-over t order way over ordered all = record {
     none-lent not_any dir true is = no-numbers (lenders t dir) (any-none (λ (d : ℕ). not (length (lenders t d) == 0)) order (sym over.lends ∙ not_any) dir (all dir (semantic-depends t dir is)))
     none-lent not_any dir false out = plain-lends t dir (none_of (query_at t dir) out)
 
-pub way-if : (result : Result Way Memory) (s t : State) (order : List ℕ) → t ≡ s → IsOrdered (depends s) order → ((dir : ℕ) → depends s dir ≢ [] → Among order dir) → IfOk result (IsWayOver t order) → IfOk result (IsWayOf s)
-way-if (Ok way) s t order same behind all over = way-over s order way (subst (λ (u : State). IsWayOver u order way) same over) behind all
-way-if (Err memory) s t order same behind all over = tt
+pub way-if : (result : Result Way Memory) (s t : State) (order : List ℕ) → t ≡ s → IsOrdered (depends s) order → ((dir : ℕ) → depends s dir ≢ [] → Among order dir) → ((dir : ℕ) → Among order dir → depends s dir ≢ []) →
+    IfOk result (IsWayOver t order) → IfOk result (IsWayOf s)
+way-if (Ok way) s t order same behind all only over = way-over s order way (subst (λ (u : State). IsWayOver u order way) same over) behind all only
+way-if (Err memory) s t order same behind all only over = tt
+
+-- on the way to all semantic directories, what doesn't lean on any depends on none of them, also in a state with the same edges
+pub leans-well : (s t : State) (way : Way) (w : IsWayOf s way) → ((dir : ℕ) → depends t dir ≡ depends s dir) → LeansWell (depends t) (leans s) w.order
+leans-well s t way w same dir out e edge inside =
+    let asked : is_semantic s e ≡ true = depends-semantic s e (w.only e inside) in
+    let plain : is_semantic s e ≡ false = any-none (is_semantic s) (depends s dir) out e (subst (λ (ns : List ℕ). Among ns e) (same dir) edge) in
+    let never : true ≡ false = sym asked ∙ plain in
+    absurd cc
+
+-- its stops, where judging begins elsewhere
+pub begun-way : (s : State) (way : Way) (w : IsWayOf s way) (begins : ℕ → Bool) → begun_at begins way.stops.items ≡ stops_at begins (leans s) w.order
+begun-way s way w begins = ap (begun_at begins) w.stops ∙ begun-stops begins (λ dir. true) (leans s) w.order
+
+-- and its directories
+pub dirs-way : (s : State) (way : Way) (w : IsWayOf s way) → dirs_of way.stops.items ≡ w.order
+dirs-way s way w = ap dirs_of w.stops ∙ dirs-at (λ dir. true) (leans s) w.order

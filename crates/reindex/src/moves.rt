@@ -11,7 +11,7 @@ ghost use Rattle.reeval.specs.Routes.{dirs_of};
 ghost use Rattle.reeval.specs.Told.{is_on, told};
 ghost use Rattle.reindex.specs.Moves.{OnlyMoves, crosses, place_tells};
 ghost use Rattle.reindex.specs.Steps.{AreSettled};
-ghost use Rattle.reindex.specs.Ways.{IsWayOf, stops_at};
+ghost use Rattle.reindex.specs.Ways.{IsWayOf, begun_at};
 
 use crate::indexing::is_below;
 use crate::past::Past;
@@ -81,13 +81,13 @@ fn stops_of_moved<Y: Layout>(
     item: Number,
 ) -> Result<Vec<Stop>, Memory>
     ensures { IfOk result (λ moved. moved.items
-        ≡ stops_at (place_tells kept.now.state (Y.state layout.now) item) (dirs_of stops.now)) }
+        ≡ begun_at (place_tells kept.now.state (Y.state layout.now) item) stops.now) }
 {
     let mut moved = Vec::new(alloc);
     for stop in stops {
         moved.push(Stop {
-            dir: stop.dir,
             begins: place_tells(layout, kept, stop.dir, item),
+            ..*stop
         })?;
     }
     Ok(moved)

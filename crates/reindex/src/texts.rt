@@ -5,8 +5,9 @@ ghost use Rattle.hac_model.specs.Query.Formula.{Formula};
 ghost use Rattle.hac_model.specs.Tree.Links.{query_at};
 ghost use Rattle.hac_model.specs.declared.states.State.{State};
 ghost use Rattle.query_index.specs.Seen.{IsIndexOf};
+ghost use Rattle.reeval.specs.Routes.{dirs_of};
 ghost use Rattle.reindex.specs.Steps.{may_begin, may_differ};
-ghost use Rattle.reindex.specs.Ways.{IsWayOf, stops_at, stops_everywhere};
+ghost use Rattle.reindex.specs.Ways.{IsWayOf, begun_at};
 
 use crate::ways::{Way, stops_marked};
 use hac_model::Memory;
@@ -24,10 +25,9 @@ pub(crate) fn stops_for(
     new: &[u8],
 ) -> Result<Vec<Stop>, Memory>
     requires way { (s : State) × IsWayOf s way.now }
-    ensures { (s : State) (order : List ℕ) → way.now.stops.items ≡ stops_everywhere order
-        → IsIndexOf (map (query_at s) order) way.now.index
+    ensures { (s : State) → IsIndexOf (map (query_at s) (dirs_of way.now.stops.items)) way.now.index
         → IfOk result (λ stops. stops.items
-        ≡ stops_at (may_begin s (option_copied old.entry) new.now) order) }
+        ≡ begun_at (may_begin s (option_copied old.entry) new.now) way.now.stops.items) }
 {
     let marks = marks_for(alloc, &way.index, old, new)?;
     stops_marked(alloc, way.stops.as_slice(), marks.as_slice())

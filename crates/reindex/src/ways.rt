@@ -1,10 +1,11 @@
 //! The ways on which items are judged again after an event.
 ghost use Rattle.std.specs.Prelude.{◌≡◌, ◌==◌, IfOk, length, map, not};
 ghost use Rattle.std.specs.List.{list_any};
-ghost use Rattle.hac_model.specs.Tree.Links.{lenders, query_at};
+ghost use Rattle.hac_model.specs.Tree.Links.{is_semantic, lenders, query_at};
 ghost use Rattle.query_index.specs.Seen.{IsIndexOf};
 ghost use Rattle.reindex.specs.Ways.{IsWayOf, IsWayOver};
-ghost use Rattle.reindex.specs.Ways.{stops_everywhere, stops_from, stops_marked, with_first};
+ghost use Rattle.reindex.specs.Ways.{leans, stops_everywhere, stops_from, stops_marked};
+ghost use Rattle.reindex.specs.Ways.{with_first};
 
 use crate::indexing::Indexing;
 use hac_model::{Memory, Number};
@@ -47,7 +48,7 @@ pub fn way_over<Y: Layout>(alloc: Global, layout: &Y, order: &[Number]) -> Resul
     ensures { IfOk result (IsWayOver (Y.state layout.now) order.now) }
 {
     Ok(Way {
-        stops: stops_everywhere(alloc, order)?,
+        stops: stops_everywhere(alloc, layout, order)?,
         index: index_of(alloc, layout, order)?,
         lends: lends_any(layout, order),
     })
@@ -73,20 +74,43 @@ fn lends_any<Y: Layout>(layout: &Y, dirs: &[Number]) -> bool
 }
 
 /// A stop at each of these directories, at each of which judging begins.
-fn stops_everywhere(alloc: Global, dirs: &[Number]) -> Result<Vec<Stop>, Memory>
-    ensures { IfOk result (λ stops. stops.items ≡ stops_everywhere dirs.now) }
+fn stops_everywhere<Y: Layout>(
+    alloc: Global,
+    layout: &Y,
+    dirs: &[Number],
+) -> Result<Vec<Stop>, Memory>
+    ensures { IfOk result (λ stops. stops.items
+        ≡ stops_everywhere (Y.state layout.now) dirs.now) }
 {
     let mut stops = Vec::new(alloc);
     for dir in dirs {
         stops.push(Stop {
             dir: *dir,
             begins: true,
+            leans: leans(layout, *dir),
         })?;
     }
     Ok(stops)
 }
 
-/// A stop at each of these directories. Judging begins at one of them.
+/// Whether a directory depends on a semantic one.
+fn leans<Y: Layout>(layout: &Y, dir: Number) -> bool
+    ensures { result ≡ leans (Y.state layout.now) dir }
+{
+    layout
+        .depends(dir)
+        .iter()
+        .any(|above| is_semantic(layout, *above))
+}
+
+/// Whether a directory is semantic.
+fn is_semantic<Y: Layout>(layout: &Y, dir: Number) -> bool
+    ensures { result ≡ is_semantic (Y.state layout.now) dir }
+{
+    layout.query(dir).is_some()
+}
+
+/// A stop at each of these directories. Judging begins at one of them, and may go on at each.
 pub fn stops_from(alloc: Global, first: Number, dirs: &[Number]) -> Result<Vec<Stop>, Memory>
     ensures { IfOk result (λ stops. stops.items ≡ stops_from first dirs.now) }
 {
@@ -95,6 +119,7 @@ pub fn stops_from(alloc: Global, first: Number, dirs: &[Number]) -> Result<Vec<S
         stops.push(Stop {
             dir: *dir,
             begins: *dir == first,
+            leans: true,
         })?;
     }
     Ok(stops)
@@ -119,8 +144,8 @@ pub(crate) fn stops_marked(
     let mut marked = Vec::new(alloc);
     for place in 0..stops.len() {
         marked.push(Stop {
-            dir: stops[place].dir,
             begins: marks[place],
+            ..stops[place]
         })?;
     }
     Ok(marked)

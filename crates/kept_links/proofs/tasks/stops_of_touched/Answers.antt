@@ -1,7 +1,7 @@
-use Rattle.std.proofs.Common.{◌∙◌}
+use Rattle.std.proofs.Common.{sym, ◌∙◌}
 use Rattle.kept_links.proofs.TaskLemmas.{only-if}
 use Rattle.kept_links.proofs.tasks.stops_of_touched.Goals as goal
 
 pub returns-in-Mark : goal.returns-in-Mark
-returns-in-Mark c = λ order all.
-    only-if c.args.event.now c.in-Mark.mark c.as_slice.result.now order c.stops_only.result c.in-Mark.is (c.as_slice.ensures.value ∙ all) c.stops_only.ensures
+returns-in-Mark c =
+    only-if c.args.event.now c.in-Mark.mark c.as_slice.result.now c.args.way.now.stops.items c.stops_only.result c.in-Mark.is c.as_slice.ensures.value c.stops_only.ensures

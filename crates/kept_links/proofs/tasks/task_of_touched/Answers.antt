@@ -6,4 +6,4 @@ returns c =
     let w = c.requires.way in
     task-touched c.args.kept.now.state c.args.event.now c.know_valid.ensures c.requires.accepted
     (record { touched = c.in_ok-touched_items.field-0; everywhere = c.in_ok-stops_of_touched.field-0; others = c.new.result; along = c.new-2.result })
-    c.args.way.now c.in_ok-touched_items.ensures w (c.in_ok-stops_of_touched.ensures w.order w.stops) c.requires.never c.new.ensures.items
+    c.args.way.now c.in_ok-touched_items.ensures w c.in_ok-stops_of_touched.ensures c.requires.never c.new.ensures.items

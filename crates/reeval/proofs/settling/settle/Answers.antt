@@ -1,8 +1,8 @@
-use Rattle.std.proofs.Common.{◌≡◌, ℕ, List, [], ◌∷◌, ◌+◌, ap, sym, subst, ◌∙◌}
+use Rattle.std.proofs.Common.{◌≡◌, ℕ, false, List, [], ◌∷◌, ◌+◌, ap, sym, subst, ◌∙◌}
 use Rattle.std.specs.Prelude.{◌&&◌, ◌||◌, ◌==◌, drop, not}
 use Rattle.std.specs.List.{list_all, list_any}
 use Rattle.std.proofs.Math.Bool.{beq}
-use Rattle.hac_model.specs.Tree.Depends.{depends}
+use Rattle.hac_model.specs.Tree.Depends.{Among, depends}
 use Rattle.std.proofs.lemmas.List.{drop_all, drop_more}
 use Rattle.hac_model.specs.Tree.Links.{has, provide}
 use Rattle.reeval.specs.Judging.{is_linked, verdict_of}
@@ -11,7 +11,8 @@ use Rattle.reeval.specs.Told.{is_on, told}
 use Rattle.reeval.specs.declared.settling.Stop.{Stop}
 use Rattle.reeval.specs.declared.verdicts.Change.{Change}
 use Rattle.reeval.specs.declared.verdicts.Verdict.{Verdict}
-use Rattle.reeval.proofs.SettleLemmas.{Settled, begins-there, settled-all, settled-by, settled-judged, settled-none}
+use Rattle.hac_model.proofs.SortedLemmas.{all-index}
+use Rattle.reeval.proofs.SettleLemmas.{Settled, begins-there, leans-none, settled-all, settled-by, settled-judged, settled-none}
 use Rattle.reeval.proofs.settling.settle.Goals as goal
 use Rattle.reeval.proofs.settling.settle.Goals.{then-stop+in_ok-judge_anew+in_ok-note_move, then-stop-via-then-stop, then-stop-via-else-stop+then-leans_on, else-stop+else-leans_on}
 
@@ -41,6 +42,9 @@ loop-stop-preserved g c = (
       drop_more stops c.loop-stop.stop-index c.stop-item.result c.loop-stop-test.true ∙ ap (λ (stop : Stop). stop ∷ rest) (sym c.stop-item.is) in
       let h = subst (λ (more : List Stop). Settled s t c.args.item stops covers (dirs_of more) (told c.loop-stop.news.items (verdict_of s c.args.item)) c.loop-stop.moved.items) left (c.loop-stop.invariant.1 atoms covers) in
       let known : ℕ → Verdict = told c.loop-stop.news.items (verdict_of s c.args.item) in
+      let alone : c.stop-item.result.leans ≡ false → (e : ℕ) → Among (depends t c.stop-item.result.dir) e → ¬ Among (dirs_of stops) e =
+      subst (λ (stop : Stop). stop.leans ≡ false → (e : ℕ) → Among (depends t stop.dir) e → ¬ Among (dirs_of stops) e) (sym c.stop-item.is)
+      (all-index (λ stop. stop.leans ≡ false → (e : ℕ) → Among (depends t stop.dir) e → ¬ Among (dirs_of stops) e) stops c.loop-stop.stop-index c.stop-item.result covers.route.alone c.loop-stop-test.true) in
       elim c.if-stop.branch [
         | then-stop+in_ok-judge_anew+in_ok-note_move w ↦
             (let news : w.as_slice-then-stop.result.now ≡ c.if-stop.news.items = w.as_slice-then-stop.ensures.value ∙ sym (λ i. (w.news-is i).items) in
@@ -54,7 +58,8 @@ loop-stop-preserved g c = (
             (subst (λ (items : List Change). Settled s t c.args.item stops covers (dirs_of rest) (told items (verdict_of s c.args.item)) c.loop-stop.moved.items) (sym (λ i. (w.news-is i).items))
             (settled-by s t c.args.item stops covers c.stop-item.result.dir (dirs_of rest) known c.loop-stop.moved.items h
             (begins-there (depends t) stops c.loop-stop.stop-index c.stop-item.result rest covers.route.ordered left w.if-stop.false)
-            (sym (λ i. list_any (has (w.as_slice.ensures.value i)) (depends t c.stop-item.result.dir)) ∙ sym w.leans_on.ensures ∙ w.if-leans_on.false)))
+            (leans-none s t c.args.item stops covers c.stop-item.result.dir (dirs_of rest) known c.loop-stop.moved.items h c.stop-item.result.leans alone
+            (sym (λ i. c.stop-item.result.leans && list_any (has (w.as_slice.ensures.value i)) (depends t c.stop-item.result.dir)) ∙ sym w.leans_on.ensures ∙ w.if-leans_on.false))))
       ],
 )
 
