@@ -68,7 +68,7 @@ module _ (s : State) (count : ℕ) (files : List ℕ) (last : ℕ) (h : IsValid 
   untouched item apart = unmoved s t item (record {
     before = links-judged s h item;
     after = after;
-    route = record { ordered = tt; closed = λ dir e edge never. absurd never };
+    route = record { ordered = tt; closed = λ dir e edge never. absurd never; alone = tt };
     alike = leaves-alike s t h after (λ dir. false) item (alike item apart);
   })
 

@@ -17,7 +17,7 @@ use Rattle.reeval.proofs.SettleLemmas.{among-has}
 use Rattle.reeval.proofs.ToldLemmas.{latest-pushed, own-pushed}
 use Rattle.reindex.specs.Ways.{IsWayOf}
 use Rattle.reindex.specs.declared.ways.Way.{Way}
-use Rattle.reindex.proofs.WayLemmas.{dirs-at, unasked}
+use Rattle.reindex.proofs.WayLemmas.{dirs-way, unasked}
 
 -- what isn't semantic says nothing
 plain-said : (s : State) → IsValid s → (item dir : ℕ) → is_semantic s dir ≡ false → verdict_of s item dir ≡ no_verdict
@@ -37,7 +37,7 @@ gone-none s valid way w item stops news are none = record {
   own = ap (list_all (is_on item)) none;
   silent = λ dir. ap (λ (changes : List Change). latest changes dir no_verdict) none;
   gone = λ dir out.
-      let apart : has w.order dir ≡ false = sym (ap (λ (dirs : List ℕ). has dirs dir) (ap dirs_of (are ∙ w.stops) ∙ dirs-at (λ dir. true) w.order)) ∙ out in
+      let apart : has w.order dir ≡ false = sym (ap (λ (dirs : List ℕ). has dirs dir) (ap dirs_of are ∙ dirs-way s way w)) ∙ out in
       ap (λ (changes : List Change). told changes (verdict_of s item) dir) none
       ∙ plain-said s valid item dir (unasked s dir (λ some. let inside = among-has w.order dir (w.all dir some) in absurd cc));
 }

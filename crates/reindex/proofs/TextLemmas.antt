@@ -20,7 +20,7 @@ use Rattle.hac_model.specs.declared.terms.Term.{Term}
 use Rattle.hac_words.proofs.WordLemmas.{has_term-rising_words}
 use Rattle.query_index.proofs.LawLemmas.{unasked_terms_stay, unfit_queries_fail}
 use Rattle.reeval.specs.Judging.{JudgesAlike, LeavesAlike, ProvidesAlike}
-use Rattle.reeval.specs.Routes.{Covers}
+use Rattle.reeval.specs.Routes.{Covers, dirs_of}
 use Rattle.reeval.specs.declared.settling.Stop.{Stop}
 use Rattle.reeval.proofs.AlikeLemmas.{judge-across, none-across, unfound-across}
 use Rattle.reeval.proofs.JudgeLemmas.{links-judged}

@@ -25,9 +25,13 @@ stops_everywhere s dirs = stops_at (λ dir. true) (leans s) dirs
 abbrev pub stops_from : ℕ → List ℕ → List Stop
 stops_from first dirs = stops_at (λ dir. dir == first) (λ dir. true) dirs
 
+-- the same stop, where judging begins if its directory is one of these
+abbrev pub begun : (ℕ → Bool) → Stop → Stop
+begun begins stop = record stop { begins = begins stop.dir }
+
 -- the same stops, where judging begins at these directories
 abbrev pub begun_at : (ℕ → Bool) → List Stop → List Stop
-begun_at begins stops = map (λ stop. record stop { begins = begins stop.dir }) stops
+begun_at begins stops = map (begun begins) stops
 
 -- the same stops, where judging begins at those that are marked
 abbrev pub stops_marked : List Stop → List Bool → List Stop
