@@ -1,9 +1,11 @@
 -- An event that is to happen, with all that is known before it.
-use Rattle.std.specs.Prelude.{◌≡◌, ℕ, false, [], ◌∷◌, IsTrue}
+use Rattle.std.specs.Prelude.{◌≡◌, ℕ, false, List, [], ◌∷◌, IsTrue}
 use Rattle.hac_model.specs.Tree.Events.{accepted, apply}
 use Rattle.hac_model.specs.Tree.Touched.{begins}
 use Rattle.hac_model.specs.declared.states.State.{State}
 use Rattle.reeval.specs.Settled.{AreLinksOf}
+use Rattle.reeval.specs.declared.verdicts.Change.{Change}
+use Rattle.reindex.specs.Past.{Lead}
 use Rattle.reindex.specs.Ways.{IsWayOf}
 use Rattle.kept_links.specs.declared.coming.Coming.{Coming}
 
@@ -24,3 +26,7 @@ pub record IsComing (coming : Coming) : Type 0 where
 -- it changes links of the items that it touches, and of no others
 abbrev pub BeginsNowhere : Coming → Type 0
 BeginsNowhere coming = (dir : ℕ) → begins (state_before coming) coming.event.now dir ≡ false
+
+-- by these changes the links before the event lead to those behind it
+abbrev pub IsBehind : Coming → List Change → Type 0
+IsBehind coming delta = Lead (state_before coming) (state_behind coming) delta

@@ -59,7 +59,7 @@ fn next_news(alloc: Global, kept: &KeptState, found: &Links, way: &Way) -> Resul
     match kept.event() {
         Some(event) => news_of(
             alloc,
-            Coming {
+            &Coming {
                 kept,
                 found,
                 way,
@@ -71,10 +71,10 @@ fn next_news(alloc: Global, kept: &KeptState, found: &Links, way: &Way) -> Resul
 }
 
 /// What will be new behind this event.
-fn news_of(alloc: Global, coming: Coming<'_>) -> Result<News, Memory>
-    requires { IsComing coming }
+fn news_of(alloc: Global, coming: &Coming<'_>) -> Result<News, Memory>
+    requires { IsComing coming.now }
     ensures { IfOk result
-        (AreNews (state_before coming) (state_behind coming) coming.way.now) }
+        (AreNews (state_before coming.now) (state_behind coming.now) coming.now.way.now) }
 {
     coming.kept.know_valid();
     if is_still(coming.way, coming.event) {
@@ -101,19 +101,19 @@ fn is_still(way: &Way, event: &Event) -> bool
 }
 
 /// What will be new behind an event that begins at a directory.
-fn news_from(alloc: Global, coming: Coming<'_>, first: Number) -> Result<News, Memory>
-    requires coming { IsComing coming }
-    requires begins { (dir : ℕ) → begins (state_before coming) coming.event.now dir
+fn news_from(alloc: Global, coming: &Coming<'_>, first: Number) -> Result<News, Memory>
+    requires coming { IsComing coming.now }
+    requires begins { (dir : ℕ) → begins (state_before coming.now) coming.now.event.now dir
         ≡ (dir == first) }
     ensures { IfOk result
-        (AreNews (state_before coming) (state_behind coming) coming.way.now) }
+        (AreNews (state_before coming.now) (state_behind coming.now) coming.now.way.now) }
 {
     let Coming {
         kept,
         found,
         event,
         ..
-    } = coming;
+    } = *coming;
     kept.know_valid();
     let outlook = Outlook::new(kept, event);
     let way = way_next(alloc, kept, &outlook, first)?;
@@ -126,11 +126,11 @@ fn news_from(alloc: Global, coming: Coming<'_>, first: Number) -> Result<News, M
 }
 
 /// What will be new behind an event that begins at no directory.
-fn news_of_touched(alloc: Global, coming: Coming<'_>) -> Result<News, Memory>
-    requires coming { IsComing coming }
-    requires never { BeginsNowhere coming }
+fn news_of_touched(alloc: Global, coming: &Coming<'_>) -> Result<News, Memory>
+    requires coming { IsComing coming.now }
+    requires never { BeginsNowhere coming.now }
     ensures { IfOk result
-        (AreNews (state_before coming) (state_behind coming) coming.way.now) }
+        (AreNews (state_before coming.now) (state_behind coming.now) coming.now.way.now) }
 {
     coming.kept.know_valid();
     let delta = delta_of_touched(alloc, coming)?;

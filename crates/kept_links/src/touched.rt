@@ -2,9 +2,9 @@
 ghost use Rattle.std.specs.Prelude.{◌≡◌, ℕ, false, true, IfOk};
 ghost use Rattle.hac_model.specs.Tree.Links.{is_item};
 ghost use Rattle.hac_model.specs.Tree.Touched.{touches};
-ghost use Rattle.kept_links.specs.Coming.{BeginsNowhere, IsComing, state_before, state_behind};
+ghost use Rattle.kept_links.specs.Coming.{BeginsNowhere, IsBehind, IsComing, state_before};
+ghost use Rattle.kept_links.specs.Coming.{state_behind};
 ghost use Rattle.reindex.specs.Moves.{OnlyMoves};
-ghost use Rattle.reindex.specs.Past.{Lead};
 
 use crate::coming::Coming;
 use crate::items::touched_items;
@@ -17,10 +17,10 @@ use std::alloc::Global;
 
 /// The new verdicts behind an event that begins at no directory. An item that moves is judged where
 /// its place may tell, and one that goes is judged nowhere.
-pub(crate) fn delta_of_touched(alloc: Global, coming: Coming<'_>) -> Result<Vec<Change>, Memory>
-    requires coming { IsComing coming }
-    requires never { BeginsNowhere coming }
-    ensures { IfOk result (λ delta. Lead (state_before coming) (state_behind coming) delta.items) }
+pub(crate) fn delta_of_touched(alloc: Global, coming: &Coming<'_>) -> Result<Vec<Change>, Memory>
+    requires coming { IsComing coming.now }
+    requires never { BeginsNowhere coming.now }
+    ensures { IfOk result (λ delta. IsBehind coming.now delta.items) }
 {
     match coming.event {
         Event::Mv { .. } => delta_of_move(alloc, coming),
@@ -31,18 +31,19 @@ pub(crate) fn delta_of_touched(alloc: Global, coming: Coming<'_>) -> Result<Vec<
 }
 
 /// The same of items that only move.
-fn delta_of_move(alloc: Global, coming: Coming<'_>) -> Result<Vec<Change>, Memory>
-    requires coming { IsComing coming }
-    requires never { BeginsNowhere coming }
-    requires moves { (item : ℕ) → OnlyMoves (state_before coming) (state_behind coming) item }
-    ensures { IfOk result (λ delta. Lead (state_before coming) (state_behind coming) delta.items) }
+fn delta_of_move(alloc: Global, coming: &Coming<'_>) -> Result<Vec<Change>, Memory>
+    requires coming { IsComing coming.now }
+    requires never { BeginsNowhere coming.now }
+    requires moves { (item : ℕ) →
+        OnlyMoves (state_before coming.now) (state_behind coming.now) item }
+    ensures { IfOk result (λ delta. IsBehind coming.now delta.items) }
 {
     let Coming {
         kept,
         found,
         way,
         event,
-    } = coming;
+    } = *coming;
     kept.know_valid();
     let outlook = Outlook::new(kept, event);
     let items = touched_items(alloc, kept, &outlook, event)?;
@@ -51,19 +52,19 @@ fn delta_of_move(alloc: Global, coming: Coming<'_>) -> Result<Vec<Change>, Memor
 }
 
 /// The same of items that go.
-fn delta_of_removal(alloc: Global, coming: Coming<'_>) -> Result<Vec<Change>, Memory>
-    requires coming { IsComing coming }
-    requires never { BeginsNowhere coming }
-    requires gone { (item : ℕ) → touches (state_before coming) coming.event.now item ≡ true
-        → is_item (state_behind coming) item ≡ false }
-    ensures { IfOk result (λ delta. Lead (state_before coming) (state_behind coming) delta.items) }
+fn delta_of_removal(alloc: Global, coming: &Coming<'_>) -> Result<Vec<Change>, Memory>
+    requires coming { IsComing coming.now }
+    requires never { BeginsNowhere coming.now }
+    requires gone { (item : ℕ) → touches (state_before coming.now) coming.now.event.now item ≡ true
+        → is_item (state_behind coming.now) item ≡ false }
+    ensures { IfOk result (λ delta. IsBehind coming.now delta.items) }
 {
     let Coming {
         kept,
         found,
         way,
         event,
-    } = coming;
+    } = *coming;
     kept.know_valid();
     let outlook = Outlook::new(kept, event);
     let items = touched_items(alloc, kept, &outlook, event)?;
@@ -71,17 +72,17 @@ fn delta_of_removal(alloc: Global, coming: Coming<'_>) -> Result<Vec<Change>, Me
 }
 
 /// The same of any other event: each item is judged in each directory, or in that of its mark.
-fn delta_of_task(alloc: Global, coming: Coming<'_>) -> Result<Vec<Change>, Memory>
-    requires coming { IsComing coming }
-    requires never { BeginsNowhere coming }
-    ensures { IfOk result (λ delta. Lead (state_before coming) (state_behind coming) delta.items) }
+fn delta_of_task(alloc: Global, coming: &Coming<'_>) -> Result<Vec<Change>, Memory>
+    requires coming { IsComing coming.now }
+    requires never { BeginsNowhere coming.now }
+    ensures { IfOk result (λ delta. IsBehind coming.now delta.items) }
 {
     let Coming {
         kept,
         found,
         way,
         event,
-    } = coming;
+    } = *coming;
     kept.know_valid();
     let outlook = Outlook::new(kept, event);
     let task = task_of_touched(alloc, kept, &outlook, event, way)?;

@@ -16,7 +16,7 @@ use Rattle.hac_model.specs.declared.states.Body.{Body}
 use Rattle.hac_model.specs.declared.states.State.{State}
 use Rattle.hac_model.specs.declared.terms.Term.{Term}
 use Rattle.reeval.specs.Judging.{JudgesAlike, LeavesAlike, ProvidesAlike}
-use Rattle.reeval.specs.Routes.{Covers, dirs_of}
+use Rattle.reeval.specs.Routes.{Covers}
 use Rattle.reeval.specs.declared.settling.Stop.{Stop}
 use Rattle.reeval.proofs.AlikeLemmas.{judge-across, none-across}
 use Rattle.reeval.proofs.JudgeLemmas.{links-judged}

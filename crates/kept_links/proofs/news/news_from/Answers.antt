@@ -11,16 +11,16 @@ use Rattle.kept_links.proofs.news.news_from.Goals as goal
 
 pub task_from-requires-clause-way : goal.task_from-requires-clause-way
 task_from-requires-clause-way c =
-    let s = c.args.coming.kept.now.state in
-    way-found s c.args.coming.event.now c.know_valid.ensures c.requires.coming.accepted c.in_ok-way.way c.args.first c.requires.begins
+    let s = c.args.coming.now.kept.now.state in
+    way-found s c.args.coming.now.event.now c.know_valid.ensures c.requires.coming.accepted c.in_ok-way.way c.args.first c.requires.begins
     (subst (λ (next : State). IsWayFrom s next c.args.first c.in_ok-way.way) (ap (λ (events : List Event). apply_all s events) c.requires.coming.ready) c.in_ok-way.ensures)
 
 pub returns : goal.returns
 returns c =
-    let s = c.args.coming.kept.now.state in
+    let s = c.args.coming.now.kept.now.state in
     record {
       leads = λ item dir. subst (λ (t : State). told (news_on item c.in_ok-delta.delta.items) (verdict_of s item) dir ≡ verdict_of t item dir) c.new-outlook.ensures
           (c.in_ok-delta.ensures refl (subst (λ (t : State). IsPlanned s t c.in_ok-task.task) (sym c.new-outlook.ensures) c.in_ok-task.ensures.planned) item dir);
-      way = way-found s c.args.coming.event.now c.know_valid.ensures c.requires.coming.accepted c.in_ok-way.way c.args.first c.requires.begins
+      way = way-found s c.args.coming.now.event.now c.know_valid.ensures c.requires.coming.accepted c.in_ok-way.way c.args.first c.requires.begins
           (subst (λ (next : State). IsWayFrom s next c.args.first c.in_ok-way.way) (ap (λ (events : List Event). apply_all s events) c.requires.coming.ready) c.in_ok-way.ensures);
     }

@@ -8,9 +8,9 @@ use Rattle.kept_links.proofs.news.news_of.Goals as goal
 
 pub returns-then-is_still : goal.returns-then-is_still
 returns-then-is_still c =
-    let s = c.args.coming.kept.now.state in
-    let e = c.args.coming.event.now in
-    let way = c.args.coming.way.now in
+    let s = c.args.coming.now.kept.now.state in
+    let e = c.args.coming.now.event.now in
+    let way = c.args.coming.now.way.now in
     let still : is_still way.lends e ≡ true = sym c.is_still.ensures ∙ c.if-is_still.true in
     record {
       leads = λ item dir.

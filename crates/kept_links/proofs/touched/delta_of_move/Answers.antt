@@ -12,24 +12,24 @@ use Rattle.kept_links.proofs.touched.delta_of_move.Goals as goal
 
 pub delta_of_moved-requires-clause-once : goal.delta_of_moved-requires-clause-once
 delta_of_moved-requires-clause-once c =
-    let s = c.args.coming.kept.now.state in
-    let e = c.args.coming.event.now in
+    let s = c.args.coming.now.kept.now.state in
+    let e = c.args.coming.now.event.now in
     let are : c.as_slice.result.now ≡ touched s e = c.as_slice.ensures.value ∙ c.in_ok-items.ensures in
     subst EachOnce (sym are) (touched-once s e)
 
 pub delta_of_moved-requires-clause-after : goal.delta_of_moved-requires-clause-after
 delta_of_moved-requires-clause-after c =
-    subst IsValid (sym c.new-outlook.ensures) (next-valid c.args.coming.kept.now.state c.args.coming.event.now c.know_valid.ensures c.requires.coming.accepted)
+    subst IsValid (sym c.new-outlook.ensures) (next-valid c.args.coming.now.kept.now.state c.args.coming.now.event.now c.know_valid.ensures c.requires.coming.accepted)
 
 pub delta_of_moved-requires-clause-way : goal.delta_of_moved-requires-clause-way
 delta_of_moved-requires-clause-way c =
-    subst (λ (t : State). IsWayOf t c.args.coming.way.now) (sym c.new-outlook.ensures)
-    (way-still c.args.coming.kept.now.state c.args.coming.event.now c.know_valid.ensures c.requires.coming.accepted c.args.coming.way.now c.requires.never c.requires.coming.way)
+    subst (λ (t : State). IsWayOf t c.args.coming.now.way.now) (sym c.new-outlook.ensures)
+    (way-still c.args.coming.now.kept.now.state c.args.coming.now.event.now c.know_valid.ensures c.requires.coming.accepted c.args.coming.now.way.now c.requires.never c.requires.coming.way)
 
 pub returns : goal.returns
 returns c =
-    let s = c.args.coming.kept.now.state in
-    let e = c.args.coming.event.now in
+    let s = c.args.coming.now.kept.now.state in
+    let e = c.args.coming.now.event.now in
     let items = c.as_slice.result.now in
     touched-leads s e c.know_valid.ensures c.requires.coming.accepted c.requires.never items c.delta_of_moved.result (c.as_slice.ensures.value ∙ c.in_ok-items.ensures)
     (subst (λ (t : State). IfOk c.delta_of_moved.result (λ delta. AreSettled s t items delta.items)) c.new-outlook.ensures (c.delta_of_moved.ensures refl))

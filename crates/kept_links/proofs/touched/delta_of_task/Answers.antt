@@ -7,10 +7,10 @@ use Rattle.kept_links.proofs.TaskLemmas.{way-still}
 use Rattle.kept_links.proofs.touched.delta_of_task.Goals as goal
 
 pub task_of_touched-requires-clause-way : goal.task_of_touched-requires-clause-way
-task_of_touched-requires-clause-way c = way-still c.args.coming.kept.now.state c.args.coming.event.now c.know_valid.ensures c.requires.coming.accepted c.args.coming.way.now c.requires.never c.requires.coming.way
+task_of_touched-requires-clause-way c = way-still c.args.coming.now.kept.now.state c.args.coming.now.event.now c.know_valid.ensures c.requires.coming.accepted c.args.coming.now.way.now c.requires.never c.requires.coming.way
 
 pub returns : goal.returns
 returns c =
-    let s = c.args.coming.kept.now.state in
+    let s = c.args.coming.now.kept.now.state in
     subst (λ (t : State). IfOk c.plan.result (λ delta. Lead s t delta.items)) c.new-outlook.ensures
     (c.plan.ensures refl (subst (λ (t : State). IsPlanned s t c.in_ok-task.task) (sym c.new-outlook.ensures) c.in_ok-task.ensures.planned))

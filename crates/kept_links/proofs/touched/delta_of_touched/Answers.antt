@@ -3,7 +3,7 @@ use Rattle.kept_links.proofs.touched.delta_of_touched.Goals as goal
 
 pub delta_of_move-requires-clause-moves : goal.delta_of_move-requires-clause-moves
 delta_of_move-requires-clause-moves c =
-    only-moved c.args.coming.kept.now.state c.args.coming.event.now c.requires.coming.accepted c.requires.never c.in-Mv.entry c.in-Mv.dir c.in-Mv.name c.in-Mv.is
+    only-moved c.args.coming.now.kept.now.state c.args.coming.now.event.now c.requires.coming.accepted c.requires.never c.in-Mv.entry c.in-Mv.dir c.in-Mv.name c.in-Mv.is
 
 pub delta_of_removal-requires-clause-gone : goal.delta_of_removal-requires-clause-gone
-delta_of_removal-requires-clause-gone c = gone-removed c.args.coming.kept.now.state c.args.coming.event.now c.in-Rm.entry c.in-Rm.is
+delta_of_removal-requires-clause-gone c = gone-removed c.args.coming.now.kept.now.state c.args.coming.now.event.now c.in-Rm.entry c.in-Rm.is
