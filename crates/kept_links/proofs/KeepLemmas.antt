@@ -57,11 +57,11 @@ nothing-wanted known delta none = subst (λ (changes : List Change). HasRoom kno
 
 -- none is there beside the root alone
 pub way-root : (version : Version) (way : Way) → way.stops.items ≡ [] → IsIndexOf [] way.index → IsWayOf (root_alone version) way
-way-root version way none index = record { order = []; ordered = tt; all = λ dir some. absurd (some refl); stops = none; index = index; lends = λ not_any dir. refl }
+way-root version way none index = record { order = []; ordered = tt; all = λ dir some. absurd (some refl); only = λ dir among. absurd among; stops = none; index = index; lends = λ not_any dir. refl }
 
 -- a state that is raised has the same one
 way-raised : (s : State) (way : Way) → IsWayOf s way → IsWayOf (raised s) way
-way-raised s way is = record { order = is.order; ordered = is.ordered; all = is.all; stops = is.stops; index = is.index; lends = is.lends }
+way-raised s way is = record { order = is.order; ordered = is.ordered; all = is.all; only = is.only; stops = is.stops; index = is.index; lends = is.lends }
 
 -- what is ready for nothing leaves it
 pub nothing-next : (s : State) (ready : List Event) (way : Way) (next : Option Way) → ready ≡ [] → next ≡ None → IsWayOf s way → IsWayOf (apply_all s ready) (unwrap_or next way)

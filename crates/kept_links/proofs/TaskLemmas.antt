@@ -2,6 +2,7 @@
 use Rattle.std.proofs.Common.{◌≡◌, ℕ, zero, Bool, true, false, List, [], ◌∷◌, ap, arith, inl, inr, refl, subst, sym, ◌∙◌}
 use Rattle.std.proofs.lemmas.Bool.{eqb-true, and_parts}
 use Rattle.std.specs.Prelude.{◌==◌, ◌≢◌, ◌||◌, if◌then◌else◌, not, map, IfOk, IfSome, Result, Vec, Ok, Err, Option, Some, None, IsTrue, is_some, option_and_then}
+use Rattle.std.specs.List.{list_any}
 use Rattle.std.specs.Option.{option_map, option_map_or}
 use Rattle.dep_graph.specs.Searches.{EachOnce, IsCone, IsOrdered}
 use Rattle.hac_model.specs.Query.Formula.{Formula}
@@ -104,9 +105,10 @@ pub only-if : (event : Event) (mark : MarkData) (stops all : List Stop) (result 
 only-if event mark stops all (Ok only) is same each = each ∙ ap (begun_at (λ other. other == mark.dir)) same ∙ sym (ap (λ (e : Event). begun_at (begins_touched e) all) is)
 only-if event mark stops all (Err memory) is same each = tt
 
--- where judging begins at each, it does so already
-pub begun-anyway : (s : State) (way : Way) → IsWayOf s way → begun_at (λ dir. true) way.stops.items ≡ way.stops.items
-begun-anyway s way w = begun-way s way w (λ dir. true) ∙ sym w.stops
+-- where it isn't a mark, judging begins at each, as it does on the way
+pub begun-others : (s : State) (event : Event) (way : Way) → IsWayOf s way → ((mark : MarkData) → event ≡ Mark mark → ⊥) → begun_at (begins_touched event) way.stops.items ≡ way.stops.items
+begun-others s (Mark mark) way w other = absurd (other mark refl)
+begun-others s event way w other = begun-way s way w (λ dir. true) ∙ sym w.stops
 
 -- one that an event touches which is no mark is judged at each directory
 covers-all : (s : State) (event : Event) → IsValid s → IsTrue (accepted s event) → (way : Way) (w : IsWayOf (apply s event) way) (item : ℕ) → touches s event item ≡ true → Covers s (apply s event) (stops_everywhere (apply s event) w.order) item

@@ -22,6 +22,7 @@ pub(crate) fn delta_of_touched(alloc: Global, coming: &Coming<'_>) -> Result<Vec
     requires never { BeginsNowhere coming.now }
     ensures { IfOk result (λ delta. IsBehind coming.now delta.items) }
 {
+    coming.kept.know_valid();
     match coming.event {
         Event::Mv { .. } => delta_of_move(alloc, coming),
         Event::Rm { .. } => delta_of_removal(alloc, coming),

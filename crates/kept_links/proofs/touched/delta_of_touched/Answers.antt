@@ -7,3 +7,7 @@ delta_of_move-requires-clause-moves c =
 
 pub delta_of_removal-requires-clause-gone : goal.delta_of_removal-requires-clause-gone
 delta_of_removal-requires-clause-gone c = gone-removed c.args.coming.now.kept.now.state c.args.coming.now.event.now c.in-Rm.entry c.in-Rm.is
+
+pub delta_of_removal-requires-in-Sumount-clause-gone : goal.delta_of_removal-requires-in-Sumount-clause-gone
+delta_of_removal-requires-in-Sumount-clause-gone c =
+    gone-unmounted c.args.coming.now.kept.now.state c.args.coming.now.event.now c.in-Sumount.mount c.know_valid.ensures.layout.numbers c.in-Sumount.is
