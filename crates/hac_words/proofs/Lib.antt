@@ -1,3 +1,5 @@
 pub mod RunLemmas
 pub mod RisingLemmas
 pub mod WordLemmas
+pub mod StandLemmas
+pub mod PlaceLemmas

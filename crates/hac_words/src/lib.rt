@@ -5,7 +5,9 @@
 mod bytes;
 pub mod laws;
 mod listing;
+mod places;
 mod searching;
+mod standing;
 
 pub use bytes::is_word;
 pub use listing::words_of;
