@@ -18,8 +18,9 @@ pub(crate) fn has_word(text: &[u8], term: &Term) -> bool
     let letters = term.letters();
     let place = rarest(letters);
     let letter = letters[place];
-    memchr2_iter(letter, letter.to_ascii_uppercase(), text)
-        .any(|found| stands_by(text, found, place, term))
+    memchr2_iter(letter, letter.to_ascii_uppercase(), text).any(|found| stands_by(
+        text, found, place, term,
+    ))
 }
 
 // Whether the term stands where its letter number `place` is at `found`.

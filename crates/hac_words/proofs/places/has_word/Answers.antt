@@ -3,7 +3,7 @@ use Rattle.std.proofs.lemmas.Iterator.Adapters.{serves_from_places}
 use Rattle.std.proofs.lemmas.Iterator.Consumers.{YieldsList-from_first}
 use Rattle.std.proofs.lemmas.Iterator.Search.{any_from_yields_List}
 use Rattle.std.specs.List.{list_any}
-use Rattle.memchr.specs.Find.{Passes, is_byte2, places}
+use Rattle.memchr.specs.Find.{is_byte2, places}
 use Rattle.memchr.proofs.lemmas.CallerLemmas.{All-places}
 use Rattle.hac_model.specs.Query.Terms.{letters_in}
 use Rattle.hac_words.specs.Standing.{stands_by}
