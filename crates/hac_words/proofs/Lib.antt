@@ -2,4 +2,4 @@ pub mod RunLemmas
 pub mod RisingLemmas
 pub mod WordLemmas
 pub mod StandLemmas
-pub mod PlaceLemmas
+pub mod WindowLemmas

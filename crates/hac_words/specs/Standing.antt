@@ -1,5 +1,5 @@
 -- Where in a text a term stands, by places.
-use Rattle.std.specs.Prelude.{ℕ, ◌-◌, Bool, ◌&&◌, ◌||◌, ◌==◌, not, nat_eq, nat_le, List, drop, length, slice_index}
+use Rattle.std.specs.Prelude.{ℕ, ◌-◌, ◌<◌, ◌≤◌, Bool, IsTrue, ◌&&◌, ◌||◌, ◌==◌, not, nat_eq, List, drop, length, slice_index, take}
 use Rattle.std.specs.List.{starts_with}
 use Rattle.hac_model.specs.Query.Words.{is_word_byte, lower_case}
 use Rattle.hac_model.specs.declared.terms.Term.{Term}
@@ -22,6 +22,10 @@ begins_with text (Prefix letters) = starts_with nat_eq (lower_case text) letters
 unfoldable pub stands_at : List ℕ → ℕ → Term → Bool
 stands_at text at term = may_begin text at && begins_with (drop at text) term
 
--- the term stands where its letter number `place` is at the place `found`
-unfoldable pub stands_by : List ℕ → ℕ → ℕ → Term → Bool
-stands_by text found place term = nat_le place found && stands_at text (found - place) term
+-- the term stands nowhere from the one place up to the other
+abbrev pub StandsNowhere : List ℕ → Term → ℕ → ℕ → Type 0
+StandsNowhere text term from to = (at : ℕ) → from ≤ at → at < to → ¬ IsTrue (stands_at text at term)
+
+-- the bytes from a place on that are searched at once, in lower case
+unfoldable pub window_at : List ℕ → ℕ → List ℕ
+window_at text from = lower_case (take 1024 (drop from text))

@@ -5,9 +5,9 @@
 mod bytes;
 pub mod laws;
 mod listing;
-mod places;
 mod searching;
 mod standing;
+mod windows;
 
 pub use bytes::is_word;
 pub use listing::words_of;

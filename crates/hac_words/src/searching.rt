@@ -5,8 +5,8 @@ ghost use Rattle.std.specs.Str.{bytes_eq};
 ghost use Rattle.hac_model.specs.Query.Words.{has_bytes, has_term, is_asked, lower_case};
 
 use crate::bytes::{is_word, is_word_byte};
-use crate::places::has_word;
 use crate::standing::begins;
+use crate::windows::{MOST_LETTERS, has_word};
 use hac_model::Term;
 
 /// Whether one of the text's words is what the term asks for. It takes no memory, and reads the
@@ -14,7 +14,8 @@ use hac_model::Term;
 pub fn has_term(text: &[u8], term: &Term) -> bool
     ensures { result ≡ has_term text.now term.now }
 {
-    if is_word(term.letters()) {
+    let letters = term.letters();
+    if letters.len() <= MOST_LETTERS && is_word(letters) {
         return has_word(text, term);
     }
     has_run(text, term)
