@@ -2,7 +2,6 @@
 use Rattle.std.proofs.Common.{◌≡◌, ◌∙◌, ℕ, zero, suc, ◌+◌, ◌-◌, ◌<◌, ◌≤◌, Bool, true, false, min, not, List, [], ◌∷◌, drop, take, get_or, get_or-drop, get_or-take, length, nat_eq, refl, ap, sym, subst, arith, ⊎_elim}
 use Rattle.std.proofs.lemmas.Bool.{and_parts, cases_eq, cases_lt, cond_both, eqb-true, false_from_ne_true, false≢true, leb-true, not-true, or_cases, or_left, or_right}
 use Rattle.std.proofs.lemmas.List.{length-drop, length-map, length-take}
-use Rattle.std.specs.Bool.{MatchBool}
 use Rattle.std.specs.Char.{to_ascii_lowercase}
 use Rattle.std.specs.List.{list_any, list_all, starts_with}
 use Rattle.memchr.specs.Find.{OccursAt, match_len, matches, matches_from, occurs_at}
@@ -11,7 +10,7 @@ use Rattle.hac_model.specs.Query.Terms.{letters_in}
 use Rattle.hac_model.specs.Query.Words.{has_bytes, has_term, is_lower_word_byte, is_word, is_word_byte, lower_case}
 use Rattle.hac_model.specs.declared.terms.Term.{Term}
 use Rattle.hac_model.specs.declared.terms.Term.TheVariants.{Word, Prefix}
-use Rattle.hac_words.specs.Standing.{StandsNowhere, begins_with, may_begin, may_end, stands_at, window_at}
+use Rattle.hac_words.specs.Standing.{StandsNowhere, WindowTells, begins_with, may_begin, may_end, stands_at, window_at}
 use Rattle.hac_words.proofs.RunLemmas.{is_word_byte-lower}
 use Rattle.hac_words.proofs.StandLemmas.{has_term-found, has_term-place}
 
@@ -68,15 +67,15 @@ get_or-lower [] place = refl
 get_or-lower (b ∷ bytes) zero = refl
 get_or-lower (b ∷ bytes) (suc place) = get_or-lower bytes place
 
-window-reads : (text : List ℕ) (from place : ℕ) → place < 1024 → get_or (window_at text from) place 0 ≡ to_ascii_lowercase (get_or text (from + place) 0)
+window-reads : (size : ℕ) (text : List ℕ) (from place : ℕ) → place < size → get_or (window_at size text from) place 0 ≡ to_ascii_lowercase (get_or text (from + place) 0)
 unfolding window_at
-window-reads text from place within =
-    get_or-lower (take 1024 (drop from text)) place
-    ∙ ap to_ascii_lowercase (get_or-take 1024 (drop from text) place 0 within ∙ get_or-drop from text place 0)
+window-reads size text from place within =
+    get_or-lower (take size (drop from text)) place
+    ∙ ap to_ascii_lowercase (get_or-take size (drop from text) place 0 within ∙ get_or-drop from text place 0)
 
-pub length-window_at : (text : List ℕ) (from : ℕ) → length (window_at text from) ≡ min 1024 (length text - from)
+pub length-window_at : (size : ℕ) (text : List ℕ) (from : ℕ) → length (window_at size text from) ≡ min size (length text - from)
 unfolding window_at
-length-window_at text from = length-map (take 1024 (drop from text)) to_ascii_lowercase ∙ length-take 1024 (drop from text) ∙ ap (min 1024) (length-drop from text)
+length-window_at size text from = length-map (take size (drop from text)) to_ascii_lowercase ∙ length-take size (drop from text) ∙ ap (min size) (length-drop from text)
 
 -- ---- the matches in a window
 
@@ -101,26 +100,26 @@ any-matches hay needle p some apart zero i (suc n) k low high occurs holds =
     (cases_eq k i))
 any-matches hay needle p some apart (suc skip) i (suc n) k low high occurs holds = any-matches hay needle p some apart skip (i + 1) n k (omega arith) (omega arith) occurs holds
 
-module _ (term : Term) (word : is_word (letters_in term) ≡ true) (text : List ℕ) (from : ℕ) where
+module _ (term : Term) (word : is_word (letters_in term) ≡ true) (size : ℕ) (text : List ℕ) (from : ℕ) where
   abbrev stands_in : ℕ → Bool
   stands_in found = stands_at text (from + found) term
 
   -- where the term stands, its letters are in the window, unless they go beyond it
-  occurs-window : (at : ℕ) → from ≤ at → at < from + (1025 - length (letters_in term)) → stands_at text at term ≡ true → OccursAt (window_at text from) (letters_in term) (at - from)
+  occurs-window : (at : ℕ) → from ≤ at → at < from + (size + 1 - length (letters_in term)) → stands_at text at term ≡ true → OccursAt (window_at size text from) (letters_in term) (at - from)
   occurs-window at low high stands =
       let some = word-some (letters_in term) word in
       let last = stands-letter term text at (length (letters_in term) - 1) (omega arith) stands in
       record {
-        fits = omega (arith, last.0, length-window_at text from);
+        fits = omega (arith, last.0, length-window_at size text from);
         reads = λ place within.
             let moved : from + (at - from + place) ≡ at + place = omega arith in
-            window-reads text from (at - from + place) (omega (arith, last.0))
+            window-reads size text from (at - from + place) (omega (arith, last.0))
             ∙ ap (λ i. to_ascii_lowercase (get_or text i 0)) moved
             ∙ (stands-letter term text at place within stands).1;
       }
 
   -- and it doesn't stand within other letters
-  apart-window : (j k : ℕ) → OccursAt (window_at text from) (letters_in term) j → j < k → k < j + length (letters_in term) → stands_in k ≡ true → ⊥
+  apart-window : (j k : ℕ) → OccursAt (window_at size text from) (letters_in term) j → j < k → k < j + length (letters_in term) → stands_in k ≡ true → ⊥
   unfolding stands_at is_word
   apart-window j k occurs low high stands =
       let before = k - 1 - j in
@@ -128,18 +127,18 @@ module _ (term : Term) (word : is_word (letters_in term) ≡ true) (text : List 
       let begins = (and_parts (may_begin text (from + k)) (begins_with (drop (from + k) text) term) stands).0 in
       let other = begins-apart text (from + (j + before)) (subst (λ at. may_begin text at ≡ true) moved begins) in
       let letter : is_word_byte (get_or (letters_in term) before 0) ≡ true = word-letter (letters_in term) before (and_parts (has_bytes (letters_in term)) _ word).1 (omega arith) in
-      let read = window-reads text from (j + before) (omega (arith, occurs.fits, length-window_at text from)) in
+      let read = window-reads size text from (j + before) (omega (arith, occurs.fits, length-window_at size text from)) in
       false≢true (sym other ∙ sym (is_word_byte-lower (get_or text (from + (j + before)) 0)) ∙ ap is_word_byte (sym read ∙ occurs.reads before (omega arith)) ∙ letter)
 
   -- what a window tells
-  pub window-tells : (found : Bool) → found ≡ list_any stands_in (matches (window_at text from) (letters_in term) 0) → MatchBool found (has_term text term ≡ true) (StandsNowhere text term from (from + (1025 - length (letters_in term))))
+  pub window-tells : (found : Bool) → found ≡ list_any stands_in (matches (window_at size text from) (letters_in term) 0) → WindowTells size text from term found
   window-tells true is =
       let some = list_any-some stands_in _ (sym is) in
       has_term-found term word text (from + some.0) some.1
   window-tells false is = λ at low high stands.
       let there : from + (at - from) ≡ at = omega arith in
       let occurs = occurs-window at low high stands in
-      false≢true (is ∙ any-matches (window_at text from) (letters_in term) stands_in (word-some (letters_in term) word) apart-window 0 0 _ (at - from) (omega arith) (omega (arith, occurs.fits)) occurs (subst (λ place. stands_at text place term ≡ true) (sym there) stands))
+      false≢true (is ∙ any-matches (window_at size text from) (letters_in term) stands_in (word-some (letters_in term) word) apart-window 0 0 _ (at - from) (omega arith) (omega (arith, occurs.fits)) occurs (subst (λ place. stands_at text place term ≡ true) (sym there) stands))
 
 -- a term that stands at no place of the text isn't in it
 pub stands-nowhere : (term : Term) (word : is_word (letters_in term) ≡ true) (text : List ℕ) (end : ℕ) → length text ≤ end → StandsNowhere text term 0 end → has_term text term ≡ false

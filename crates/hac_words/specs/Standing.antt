@@ -1,7 +1,8 @@
 -- Where in a text a term stands, by places.
-use Rattle.std.specs.Prelude.{ℕ, ◌-◌, ◌<◌, ◌≤◌, Bool, IsTrue, ◌&&◌, ◌||◌, ◌==◌, not, nat_eq, List, drop, length, slice_index, take}
+use Rattle.std.specs.Prelude.{ℕ, ◌+◌, ◌-◌, ◌<◌, ◌≤◌, Bool, IsTrue, MatchBool, ◌&&◌, ◌||◌, ◌==◌, not, nat_eq, List, drop, length, slice_index, take}
 use Rattle.std.specs.List.{starts_with}
-use Rattle.hac_model.specs.Query.Words.{is_word_byte, lower_case}
+use Rattle.hac_model.specs.Query.Terms.{letters_in}
+use Rattle.hac_model.specs.Query.Words.{has_term, is_word_byte, lower_case}
 use Rattle.hac_model.specs.declared.terms.Term.{Term}
 use Rattle.hac_model.specs.declared.terms.Term.TheVariants.{Word, Prefix}
 
@@ -26,6 +27,12 @@ stands_at text at term = may_begin text at && begins_with (drop at text) term
 abbrev pub StandsNowhere : List ℕ → Term → ℕ → ℕ → Type 0
 StandsNowhere text term from to = (at : ℕ) → from ≤ at → at < to → ¬ IsTrue (stands_at text at term)
 
--- the bytes from a place on that are searched at once, in lower case
-unfoldable pub window_at : List ℕ → ℕ → List ℕ
-window_at text from = lower_case (take 1024 (drop from text))
+-- the window of a size at a place: that many bytes from there on, in lower case
+unfoldable pub window_at : ℕ → List ℕ → ℕ → List ℕ
+window_at size text from = lower_case (take size (drop from text))
+
+-- what is found in a window, the text has. Where nothing is found, the term stands at no place from which on its letters
+-- would fit into the window
+abbrev pub WindowTells : ℕ → List ℕ → ℕ → Term → Bool → Type 0
+WindowTells size text from term found =
+    MatchBool found (IsTrue (has_term text term)) (StandsNowhere text term from (from + (size + 1 - length (letters_in term))))

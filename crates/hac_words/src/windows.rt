@@ -1,9 +1,9 @@
 //! Whether a text has a term whose letters are a word. The text is searched by windows: each is
 //! copied in lower case, and the copy is searched for the letters as they are.
-ghost use Rattle.std.specs.Prelude.{◌≡◌, ◌+◌, ◌-◌, ◌<◌, ◌≤◌, length, IsTrue, MatchBool};
+ghost use Rattle.std.specs.Prelude.{◌≡◌, ◌<◌, ◌≤◌, length, IsTrue};
 ghost use Rattle.hac_model.specs.Query.Terms.{letters_in};
 ghost use Rattle.hac_model.specs.Query.Words.{has_term, is_word};
-ghost use Rattle.hac_words.specs.Standing.{StandsNowhere, window_at};
+ghost use Rattle.hac_words.specs.Standing.{WindowTells, window_at};
 
 use crate::standing::stands_at;
 use hac_model::Term;
@@ -18,7 +18,7 @@ const WINDOW: usize = 1024;
 /// Whether one of the text's words is what the term asks for.
 pub(crate) fn has_word(text: &[u8], term: &Term) -> bool
     requires word { IsTrue (is_word (letters_in term.now)) }
-    requires short { length (letters_in term.now) ≤ 512 }
+    requires short { length (letters_in term.now) ≤ MOST_LETTERS }
     ensures { result ≡ has_term text.now term.now }
 {
     let letters = term.letters();
@@ -41,8 +41,7 @@ fn has_from(text: &[u8], from: usize, finder: &Finder<'_>, term: &Term) -> bool
     requires within { from < length text.now }
     requires word { IsTrue (is_word (letters_in term.now)) }
     requires finder { finder.now ≡ letters_in term.now }
-    ensures { MatchBool result (IsTrue (has_term text.now term.now)) (StandsNowhere text.now term.now
-        from (from + (1025 - length (letters_in term.now)))) }
+    ensures { WindowTells WINDOW text.now from term.now result }
 {
     let rest = &text[from..];
     let part = &rest[..rest.len().min(WINDOW)];
@@ -56,11 +55,10 @@ fn has_from(text: &[u8], from: usize, finder: &Finder<'_>, term: &Term) -> bool
 // The same of the window.
 fn is_in_window(text: &[u8], from: usize, window: &[u8], finder: &Finder<'_>, term: &Term) -> bool
     requires within { from < length text.now }
-    requires window { window.now ≡ window_at text.now from }
+    requires window { window.now ≡ window_at WINDOW text.now from }
     requires word { IsTrue (is_word (letters_in term.now)) }
     requires finder { finder.now ≡ letters_in term.now }
-    ensures { MatchBool result (IsTrue (has_term text.now term.now)) (StandsNowhere text.now term.now
-        from (from + (1025 - length (letters_in term.now)))) }
+    ensures { WindowTells WINDOW text.now from term.now result }
 {
     finder
         .find_iter(window)
