@@ -14,7 +14,7 @@ may_begin text at = at == 0 || not (is_word_byte (slice_index text (at - 1)))
 unfoldable pub may_end : List ℕ → ℕ → Bool
 may_end text at = not (is_word_byte (slice_index text at))
 
--- the text begins with the term's letters, in whatever case, and a whole word ends behind them
+-- the text, in lower case, begins with the term's letters, and behind those of a whole word no word goes on
 unfoldable pub begins_with : List ℕ → Term → Bool
 begins_with text (Word letters) = starts_with nat_eq (lower_case text) letters && may_end text (length letters)
 begins_with text (Prefix letters) = starts_with nat_eq (lower_case text) letters

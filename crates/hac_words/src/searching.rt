@@ -1,6 +1,5 @@
 //! Whether a text has a term.
-ghost use Rattle.std.specs.Prelude.{◌≡◌, ◌&&◌, nat_eq};
-ghost use Rattle.std.specs.List.{starts_with};
+ghost use Rattle.std.specs.Prelude.{◌≡◌, ◌&&◌};
 ghost use Rattle.std.specs.Str.{bytes_eq};
 ghost use Rattle.hac_model.specs.Query.Words.{has_bytes, has_term, is_asked, lower_case};
 
@@ -9,8 +8,8 @@ use crate::standing::begins;
 use crate::windows::{MOST_LETTERS, has_word};
 use hac_model::Term;
 
-/// Whether one of the text's words is what the term asks for. It takes no memory, and reads the
-/// text once.
+/// Whether one of the text's words is what the term asks for. It takes no memory, and goes through
+/// the text once.
 pub fn has_term(text: &[u8], term: &Term) -> bool
     ensures { result ≡ has_term text.now term.now }
 {

@@ -34,7 +34,7 @@ fn begins_with(text: &[u8], term: &Term) -> bool
     }
 }
 
-// Whether the text begins with the letters in whatever case, and no word goes on behind them.
+// Whether the text, in lower case, begins with the letters, and no word goes on behind them.
 fn is_whole(text: &[u8], letters: &[u8]) -> bool
     ensures { result ≡ (starts_with nat_eq (lower_case text.now) letters.now
         && may_end text.now (length letters.now)) }
@@ -49,7 +49,7 @@ fn may_end(text: &[u8], at: usize) -> bool
     at >= text.len() || !is_word_byte(text[at])
 }
 
-/// Whether the text begins with the letters, which are in lower case, in whatever case.
+/// Whether the text, in lower case, begins with the letters.
 pub(crate) fn begins(text: &[u8], letters: &[u8]) -> bool
     ensures { result ≡ starts_with nat_eq (lower_case text.now) letters.now }
 {

@@ -52,7 +52,7 @@ fn has_from(text: &[u8], from: usize, finder: &Finder<'_>, term: &Term) -> bool
     is_in_window(text, from, window, finder, term)
 }
 
-// The same of the window.
+// The same, with that window.
 fn is_in_window(text: &[u8], from: usize, window: &[u8], finder: &Finder<'_>, term: &Term) -> bool
     requires within { from < length text.now }
     requires window { window.now ≡ window_at WINDOW text.now from }
