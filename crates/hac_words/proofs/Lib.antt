@@ -3,3 +3,4 @@ pub mod RisingLemmas
 pub mod WordLemmas
 pub mod StandLemmas
 pub mod WindowLemmas
+pub mod FrontLemmas

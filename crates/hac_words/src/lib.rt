@@ -5,6 +5,7 @@
 mod bytes;
 pub mod laws;
 mod listing;
+mod runs;
 mod searching;
 mod standing;
 mod windows;
