@@ -51,7 +51,7 @@ has_term-parts text term =
     ∙ list_any-filter has_bytes (λ run. is_asked term (lower_case run)) (slice_split (λ b. not (is_word_byte b)) text)
 
 -- lower case makes no byte a word byte, and none another byte
-is_word_byte-lower : (b : ℕ) → is_word_byte (to_ascii_lowercase b) ≡ is_word_byte b
+pub is_word_byte-lower : (b : ℕ) → is_word_byte (to_ascii_lowercase b) ≡ is_word_byte b
 unfolding is_word_byte
 is_word_byte-lower b = grind (arith, nat_tests)
 

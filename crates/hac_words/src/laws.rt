@@ -1,6 +1,6 @@
 //! Theorems over the definitions alone. Each is the contract of a function that does nothing.
 ghost use Rattle.hac_words.specs.Laws.{TermsAreFound, WordsAreDetermined, WordsAreWords, WordsRise};
-ghost use Rattle.hac_words.specs.Laws.{WordsStay};
+ghost use Rattle.hac_words.specs.Laws.{TermsStand, WordsStay};
 
 /// Each word of a text is a word by itself.
 pub fn words_are_words()
@@ -25,4 +25,9 @@ pub fn words_are_determined()
 /// Which terms a text has is known from the list of its words.
 pub fn terms_are_found()
     ensures { TermsAreFound }
+{}
+
+/// A text has a term whose letters are a word where that word, or one that begins so, stands in it.
+pub fn terms_stand()
+    ensures { TermsStand }
 {}

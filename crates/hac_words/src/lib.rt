@@ -5,7 +5,10 @@
 mod bytes;
 pub mod laws;
 mod listing;
+mod runs;
 mod searching;
+mod standing;
+mod windows;
 
 pub use bytes::is_word;
 pub use listing::words_of;

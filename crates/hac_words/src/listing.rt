@@ -1,8 +1,9 @@
 //! The distinct words of a text.
-ghost use Rattle.std.specs.Prelude.{◌≡◌, IfOk, map};
+ghost use Rattle.std.specs.Prelude.{◌≡◌, IfOk};
 ghost use Rattle.hac_model.specs.Query.Words.{lower_case, rising_words, runs};
 
 use crate::bytes::is_word_byte;
+use crate::runs::Run;
 use hac_model::{Memory, Name, Words};
 use std::alloc::{AllocError, Global};
 
@@ -19,20 +20,21 @@ pub fn words_of(alloc: Global, text: &[u8]) -> Result<Words, Memory>
 }
 
 // The longest runs of word bytes, in the order of the text.
-fn runs(alloc: Global, text: &[u8]) -> Result<Vec<&[u8]>, AllocError>
-    ensures { IfOk result (λ found. map (λ run. run.now) found.items ≡ runs text.now) }
+fn runs(alloc: Global, text: &[u8]) -> Result<Vec<Run<'_>>, AllocError>
+    ensures { IfOk result (λ found. found.items ≡ runs text.now) }
 {
     text.split(|b| !is_word_byte(*b))
         .filter(|run| !run.is_empty())
+        .map(|run| Run::new(run))
         .collect(alloc)
 }
 
-fn names(alloc: Global, words: &[&[u8]]) -> Result<Vec<Name>, AllocError>
-    ensures { IfOk result (λ names. names.items ≡ map (λ word. word.now) words.now) }
+fn names(alloc: Global, words: &[Run<'_>]) -> Result<Vec<Name>, AllocError>
+    ensures { IfOk result (λ names. names.items ≡ words.now) }
 {
     let mut names = Vec::with_capacity(alloc, words.len())?;
     for word in words {
-        names.push(Name::new(Vec::from_slice(alloc, word)?))?;
+        names.push(Name::new(Vec::from_slice(alloc, word.as_bytes())?))?;
     }
     Ok(names)
 }

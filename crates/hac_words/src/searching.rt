@@ -1,15 +1,27 @@
 //! Whether a text has a term.
-ghost use Rattle.std.specs.Prelude.{◌≡◌, ◌&&◌, nat_eq};
-ghost use Rattle.std.specs.List.{starts_with};
+ghost use Rattle.std.specs.Prelude.{◌≡◌, ◌&&◌};
 ghost use Rattle.std.specs.Str.{bytes_eq};
 ghost use Rattle.hac_model.specs.Query.Words.{has_bytes, has_term, is_asked, lower_case};
 
-use crate::bytes::is_word_byte;
+use crate::bytes::{is_word, is_word_byte};
+use crate::standing::begins;
+use crate::windows::{MOST_LETTERS, has_word};
 use hac_model::Term;
 
-/// Whether one of the text's words is what the term asks for. It takes no memory, and reads the
-/// text once.
+/// Whether one of the text's words is what the term asks for. It takes no memory, and goes through
+/// the text once.
 pub fn has_term(text: &[u8], term: &Term) -> bool
+    ensures { result ≡ has_term text.now term.now }
+{
+    let letters = term.letters();
+    if letters.len() <= MOST_LETTERS && is_word(letters) {
+        return has_word(text, term);
+    }
+    has_run(text, term)
+}
+
+// The same for any letters, run by run.
+fn has_run(text: &[u8], term: &Term) -> bool
     ensures { result ≡ has_term text.now term.now }
 {
     text.split(|b| !is_word_byte(*b))
@@ -37,15 +49,4 @@ fn spells(run: &[u8], letters: &[u8]) -> bool
     ensures { result ≡ bytes_eq letters.now (lower_case run.now) }
 {
     run.len() == letters.len() && begins(run, letters)
-}
-
-// Whether the run begins with these letters in lower case.
-fn begins(run: &[u8], letters: &[u8]) -> bool
-    ensures { result ≡ starts_with nat_eq (lower_case run.now) letters.now }
-{
-    run.len() >= letters.len()
-        && letters
-            .iter()
-            .zip(run)
-            .all(|(letter, b)| *letter == b.to_ascii_lowercase())
 }

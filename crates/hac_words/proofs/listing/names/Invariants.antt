@@ -1,5 +1,5 @@
-use Rattle.std.proofs.Common.{◌≡◌, map, take}
+use Rattle.std.proofs.Common.{◌≡◌, take}
 use Rattle.hac_words.proofs.listing.names.Given as goal
 
 abbrev pub invariant-loop-word : goal.invariant-loop-word
-invariant-loop-word l = l.names.items ≡ map (λ word. word.now) (take l.word-index l.words)
+invariant-loop-word l = l.names.items ≡ take l.word-index l.words

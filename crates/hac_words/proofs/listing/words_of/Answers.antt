@@ -1,4 +1,5 @@
-use Rattle.std.proofs.Common.{◌≡◌, ◌∙◌, [], map, fold, ap}
+use Rattle.std.proofs.Common.{◌≡◌, ◌∙◌, [], fold, ap, sym}
+use Rattle.std.proofs.lemmas.List.{map-id}
 use Rattle.std.proofs.lemmas.List.Filters.{dedup_is}
 use Rattle.std.specs.BTreeSet.{insert_key}
 use Rattle.std.specs.Cmp.Lexicographic.{slice_cmp}
@@ -12,9 +13,11 @@ pub returns : goal.returns
 unfolding rising_words
 returns c =
     let lowered : c.deref.result.now ≡ lower_case c.args.text.now = cc (c.in_ok-text.ensures.ok) in
-    let found : map (λ run. run.now) c.in_ok-words.words.items ≡ words c.args.text.now = c.in_ok-words.ensures ∙ ap runs lowered ∙ runs-lower_case c.args.text.now in
+    let found : c.in_ok-words.words.items ≡ words c.args.text.now = c.in_ok-words.ensures ∙ ap runs lowered ∙ runs-lower_case c.args.text.now in
     c.new.ensures
     ∙ c.in_ok-names.ensures
-    ∙ ap (map (λ word. word.now)) (c.deref-2.ensures.value ∙ dedup_is _ _ _ c.dedup.ensures.filtered)
-    ∙ settled (λ word. word.now) _ _ c.sort_unstable.ensures.permutation c.sort_unstable.ensures.sorted
-    ∙ ap (fold (insert_key (slice_cmp nat_cmp)) []) found
+    ∙ c.deref-2.ensures.value
+    ∙ dedup_is _ _ _ c.dedup.ensures.filtered
+    ∙ sym (map-id _)
+    ∙ settled (λ run. run) _ _ c.sort_unstable.ensures.permutation c.sort_unstable.ensures.sorted
+    ∙ ap (fold (insert_key (slice_cmp nat_cmp)) []) (map-id _ ∙ found)

@@ -3,7 +3,7 @@ use Rattle.std.proofs.lemmas.Iterator.Search.{any_from_yields_List}
 use Rattle.std.proofs.lemmas.Iterator.Splits.{YieldsList-from_slice_split}
 use Rattle.hac_model.specs.Query.Words.{has_bytes, is_asked, is_word_byte, lower_case}
 use Rattle.hac_words.proofs.RunLemmas.{has_term-parts}
-use Rattle.hac_words.proofs.searching.has_term.Goals as goal
+use Rattle.hac_words.proofs.searching.has_run.Goals as goal
 
 pub returns : goal.returns
 returns c =
