@@ -16,6 +16,7 @@ pub mod OpenedLemmas
 pub mod OpeningLemmas
 pub mod AttachLemmas
 pub mod UnattachedLemmas
+pub mod GeneratingLemmas
 pub mod WordSpaces
 pub mod WordLooks
 pub mod WordLemmas

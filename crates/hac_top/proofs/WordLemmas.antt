@@ -6,7 +6,7 @@ use Rattle.std.specs.Option.{option_or}
 use Rattle.std.specs.Str.{IsUtf8, bytes_eq}
 use Rattle.std.proofs.lemmas.List.Folds.{find-append}
 use Rattle.std.proofs.Math.Bool.{or-false}
-use Rattle.hac_model.specs.Script.CommandLine.{Parsed, asked_by, fresh_of, given_behind_tick, given_by, names_alone, store_of, tick_of, with_name, with_new, with_tick}
+use Rattle.hac_model.specs.Script.CommandLine.{Parsed, asked_by, fresh_of, given_behind, given_by, is_dashed, make_of, names_alone, store_of, tick_of, with_name, with_new}
 use Rattle.clap.specs.Values.{bool_text}
 use Rattle.clap.specs.Kinds.{Kinds, or_else}
 use Rattle.clap.specs.Faults.{check_fault, defaults_fault, entered_fault, fault_of, level_fault, settle_fault, step_fault, turn_fault, walk_fault, word_fault}
@@ -16,7 +16,7 @@ use Rattle.clap.specs.declared.parser.matches.ValueSource.TheVariants.{CommandLi
 use Rattle.clap.specs.Words.{matches_of}
 use Rattle.clap.specs.Simple.{built, entered, filled}
 use Rattle.hac_top.specs.Words.{hac, space_names, store_name}
-use Rattle.hac_top.proofs.WordLooks.{IsFaulty, IsPlain, Look, Looks, all-pass, arguments, ends, faulty, faulty-behind, fresh, has_fault, held_with, looks, or-first, plain, same-bytes, tick, tick_with, top, two-or-more}
+use Rattle.hac_top.proofs.WordLooks.{IsFaulty, IsPlain, Look, Looks, Valued, all-pass, alone, arguments, ends, faulty, faulty-behind, fresh, has_fault, held_with, looks, make_value, name_of, or-first, plain, same-bytes, tick_value, top, two-or-more, valued, with_value}
 
 -- ---- rows
 
@@ -101,15 +101,27 @@ module _ (id : Text) (change : Row → Row) (keeps : (row : Row) → (change row
 
 -- ---- what was given
 
-abbrev pub so_far : ℕ → List Text → List Text → Parsed
-so_far news ticks names = record { news = news; ticks = ticks; names = names }
+abbrev pub parsed_of : ℕ → List Text → List Text → List Text → Parsed
+parsed_of news ticks makes names = record { news = news; ticks = ticks; makes = makes; names = names }
+
+-- `--new` so many times, these values of each option that has one, and these names
+abbrev pub so_far : ℕ → (Valued → List Text) → List Text → Parsed
+so_far news values names = parsed_of news (values tick_value) (values make_value) names
 
 -- what was given, and what follows gives
-abbrev joined : Parsed → Parsed → Parsed
-joined before more = so_far (before.news + more.news) (before.ticks ++ more.ticks) (before.names ++ more.names)
+abbrev pub joined : Parsed → Parsed → Parsed
+joined before more = parsed_of (before.news + more.news) (before.ticks ++ more.ticks) (before.makes ++ more.makes) (before.names ++ more.names)
 
-same-given : (news more_news : ℕ) (ticks more_ticks names more_names : List Text) → news ≡ more_news → ticks ≡ more_ticks → names ≡ more_names → so_far news ticks names ≡ so_far more_news more_ticks more_names
-same-given news more_news ticks more_ticks names more_names a b c = λ i. record { news = a i; ticks = b i; names = c i }
+-- one value more
+abbrev added : Valued → Text → (Valued → List Text) → Valued → List Text
+added tick_value word values tick_value = values tick_value ++ word ∷ []
+added tick_value word values make_value = values make_value
+added make_value word values tick_value = values tick_value
+added make_value word values make_value = values make_value ++ word ∷ []
+
+same-given : (news more_news : ℕ) (ticks more_ticks makes more_makes names more_names : List Text) → news ≡ more_news → ticks ≡ more_ticks → makes ≡ more_makes → names ≡ more_names
+    → parsed_of news ticks makes names ≡ parsed_of more_news more_ticks more_makes more_names
+same-given news more_news ticks more_ticks makes more_makes names more_names a b c d = λ i. record { news = a i; ticks = b i; makes = c i; names = d i }
 
 none-through : {T U : Type 0} (o : Option T) (f : T → Option U) → ((x : T) → f x ≡ None) → option_and_then f o ≡ None
 none-through None f none = refl
@@ -121,23 +133,28 @@ none-by-news given none = rw none refl
 none-by-ticks : (given : Parsed) → tick_of given.ticks ≡ None → asked_by given ≡ None
 none-by-ticks given none = none-through (fresh_of given.news) _ (λ fresh. rw none refl)
 
+none-by-makes : (given : Parsed) → make_of given.makes ≡ None → asked_by given ≡ None
+none-by-makes given none = none-through (fresh_of given.news) _ (λ fresh. none-through (tick_of given.ticks) _ (λ tick. rw none refl))
+
 none-by-names : (given : Parsed) → store_of given.names ≡ None → asked_by given ≡ None
-none-by-names given none = none-through (fresh_of given.news) _ (λ fresh. none-through (tick_of given.ticks) _ (λ tick. rw none refl))
+none-by-names given none =
+    none-through (fresh_of given.news) _ (λ fresh. none-through (tick_of given.ticks) _ (λ tick. none-through (make_of given.makes) _ (λ make. rw none refl)))
 
 -- whatever follows, nothing is asked for
 abbrev IsTooMuch : Parsed → Type 0
 IsTooMuch before = (more : Parsed) → asked_by (joined before more) ≡ None
 
-two-news : (ticks names : List Text) → IsTooMuch (so_far 2 ticks names)
-two-news ticks names more =
+two-news : (values : Valued → List Text) (names : List Text) → IsTooMuch (so_far 2 values names)
+two-news values names more =
     let many : 2 + more.news ≡ suc (suc more.news) = omega arith in
-    none-by-news (joined (so_far 2 ticks names) more) (ap fresh_of many)
+    none-by-news (joined (so_far 2 values names) more) (ap fresh_of many)
 
-two-ticks : (news : ℕ) (a b : Text) (names : List Text) → IsTooMuch (so_far news (a ∷ b ∷ []) names)
-two-ticks news a b names more = none-by-ticks (joined (so_far news (a ∷ b ∷ []) names) more) refl
+two-values : (which : Valued) (news : ℕ) (a b : Text) (values : Valued → List Text) (names : List Text) → values which ≡ a ∷ b ∷ [] → IsTooMuch (so_far news values names)
+two-values tick_value news a b values names is more = none-by-ticks (joined (so_far news values names) more) (ap (λ (given : List Text). tick_of (given ++ more.ticks)) is)
+two-values make_value news a b values names is more = none-by-makes (joined (so_far news values names) more) (ap (λ (given : List Text). make_of (given ++ more.makes)) is)
 
-empty-name : (news : ℕ) (ticks : List Text) → IsTooMuch (so_far news ticks ([] ∷ []))
-empty-name news ticks more = none-by-names (joined (so_far news ticks ([] ∷ [])) more) refl
+empty-name : (news : ℕ) (values : Valued → List Text) → IsTooMuch (so_far news values ([] ∷ []))
+empty-name news values more = none-by-names (joined (so_far news values ([] ∷ [])) more) refl
 
 none-more : (before : Parsed) (more : Option Parsed) → IsTooMuch before → option_and_then asked_by (option_map (joined before) more) ≡ None
 none-more before None too_much = refl
@@ -149,14 +166,16 @@ moved : (before after : Parsed) (step : Parsed → Parsed) → ((more : Parsed) 
 moved before after step same None = refl
 moved before after step same (Some more) = ap Some (sym (same more))
 
-new-moves : (news : ℕ) (ticks names : List Text) (more : Parsed) → joined (so_far news ticks names) (with_new more) ≡ joined (so_far (suc news) ticks names) more
-new-moves news ticks names more = same-given _ _ _ _ _ _ (omega arith) refl refl
+new-moves : (news : ℕ) (values : Valued → List Text) (names : List Text) (more : Parsed) → joined (so_far news values names) (with_new more) ≡ joined (so_far (suc news) values names) more
+new-moves news values names more = same-given _ _ _ _ _ _ _ _ (omega arith) refl refl refl
 
-tick-moves : (news : ℕ) (ticks names : List Text) (word : Text) (more : Parsed) → joined (so_far news ticks names) (with_tick word more) ≡ joined (so_far news (ticks ++ word ∷ []) names) more
-tick-moves news ticks names word more = same-given _ _ _ _ _ _ refl (sym (append_assoc ticks (word ∷ []) more.ticks)) refl
+value-moves : (which : Valued) (news : ℕ) (values : Valued → List Text) (names : List Text) (word : Text) (more : Parsed)
+    → joined (so_far news values names) (with_value which word more) ≡ joined (so_far news (added which word values) names) more
+value-moves tick_value news values names word more = same-given _ _ _ _ _ _ _ _ refl (sym (append_assoc (values tick_value) (word ∷ []) more.ticks)) refl refl
+value-moves make_value news values names word more = same-given _ _ _ _ _ _ _ _ refl refl (sym (append_assoc (values make_value) (word ∷ []) more.makes)) refl
 
-name-moves : (news : ℕ) (ticks names : List Text) (word : Text) (more : Parsed) → joined (so_far news ticks names) (with_name word more) ≡ joined (so_far news ticks (names ++ word ∷ [])) more
-name-moves news ticks names word more = same-given _ _ _ _ _ _ refl refl (sym (append_assoc names (word ∷ []) more.names))
+name-moves : (news : ℕ) (values : Valued → List Text) (names : List Text) (word : Text) (more : Parsed) → joined (so_far news values names) (with_name word more) ≡ joined (so_far news values (names ++ word ∷ [])) more
+name-moves news values names word more = same-given _ _ _ _ _ _ _ _ refl refl refl (sym (append_assoc names (word ∷ []) more.names))
 
 -- ---- the rows of what was given
 
@@ -182,86 +201,136 @@ is_filled [] = true
 is_filled (name ∷ names) = nat_le 1 (length name)
 
 -- each option at most once, and the names
-record Shows (rows : List Row) (given : Parsed) : Type 0 where
+record Shows (rows : List Row) (news : ℕ) (values : Valued → List Text) (names : List Text) : Type 0 where
   fresh : Bool
-  tick : Option Text
-  news_are : given.news ≡ (if fresh then 1 else 0)
-  ticks_are : given.ticks ≡ option_to_list tick
+  told : Valued → Option Text
+  news_are : news ≡ (if fresh then 1 else 0)
+  told_are : (which : Valued) → values which ≡ option_to_list (told which)
   new_row : row_by (codes "new") rows ≡ (if fresh then Some (one_row (codes "new") (codes "true")) else None)
-  tick_row : row_by (codes "tick") rows ≡ option_map (one_row (codes "tick")) tick
-  store_row : row_by (codes "store") rows ≡ store_row_of given.names
-  spaces_row : row_by (codes "spaces") rows ≡ spaces_row_of given.names
-  filled : is_filled given.names ≡ true
+  told_row : (which : Valued) → row_by (name_of which) rows ≡ option_map (one_row (name_of which)) (told which)
+  store_row : row_by (codes "store") rows ≡ store_row_of names
+  spaces_row : row_by (codes "spaces") rows ≡ spaces_row_of names
+  filled : is_filled names ≡ true
 
 -- the library holds what was given, or too much was given, and the fault will be told
-abbrev Holds : List Row → Option (Text × List Text) → Parsed → Type 0
-Holds rows pending given =
-    ((settle_fault arguments false (held_with rows pending) ≡ []) × Shows (settled_rows arguments pending rows) given)
-    ⊎ ((has_fault (settle_fault arguments false (held_with rows pending)) ≡ true) × IsTooMuch given)
+abbrev Holds : List Row → Option (Text × List Text) → ℕ → (Valued → List Text) → List Text → Type 0
+Holds rows pending news values names =
+    ((settle_fault arguments false (held_with rows pending) ≡ []) × Shows (settled_rows arguments pending rows) news values names)
+    ⊎ ((has_fault (settle_fault arguments false (held_with rows pending)) ≡ true) × IsTooMuch (so_far news values names))
 
-use-new : (rows : List Row) (news : ℕ) (ticks names : List Text) → Shows rows (so_far news ticks names) → Holds rows (Some (codes "new", [])) (so_far (suc news) ticks names)
-use-new rows news ticks names shows = by shows.fresh shows.news_are shows.new_row
+-- the name of an option with a value is none of the others
+record IsApart (which : Valued) : Type 0 where
+  new_is : bytes_eq (codes "new") (name_of which) ≡ false
+  store_is : bytes_eq (codes "store") (name_of which) ≡ false
+  spaces_are : bytes_eq (codes "spaces") (name_of which) ≡ false
+  is_new : bytes_eq (name_of which) (codes "new") ≡ false
+  is_store : bytes_eq (name_of which) (codes "store") ≡ false
+  are_spaces : bytes_eq (name_of which) (codes "spaces") ≡ false
+
+is-apart : (which : Valued) → IsApart which
+is-apart tick_value = record { new_is = refl; store_is = refl; spaces_are = refl; is_new = refl; is_store = refl; are_spaces = refl }
+is-apart make_value = record { new_is = refl; store_is = refl; spaces_are = refl; is_new = refl; is_store = refl; are_spaces = refl }
+
+use-new : (rows : List Row) (news : ℕ) (values : Valued → List Text) (names : List Text) → Shows rows news values names → Holds rows (Some (codes "new", [])) (suc news) values names
+use-new rows news values names shows = by shows.fresh shows.news_are shows.new_row
   where
     by : (fresh : Bool) → news ≡ (if fresh then 1 else 0) → row_by (codes "new") rows ≡ (if fresh then Some (one_row (codes "new") (codes "true")) else None)
-        → Holds rows (Some (codes "new", [])) (so_far (suc news) ticks names)
+        → Holds rows (Some (codes "new", [])) (suc news) values names
     by true is row =
         let two : suc news ≡ 2 = omega (arith, is) in
-        inr (rw (has-row (codes "new") rows _ row) refl, subst (λ n. IsTooMuch (so_far n ticks names)) (sym two) (two-news ticks names))
+        inr (rw (has-row (codes "new") rows _ row) refl, subst (λ n. IsTooMuch (so_far n values names)) (sym two) (two-news values names))
     by false is row =
         let after : List Row = rows ++ one_row (codes "new") (codes "true") ∷ [] in
         let one : suc news ≡ 1 = omega (arith, is) in
         inl (
           rw (has-row (codes "new") rows _ row) refl,
-          subst (λ r. Shows r (so_far (suc news) ticks names)) (sym (used-first (codes "new") (codes "true") rows row)) (record {
+          subst (λ r. Shows r (suc news) values names) (sym (used-first (codes "new") (codes "true") rows row)) (record {
             fresh = true;
-            tick = shows.tick;
+            told = shows.told;
             news_are = one;
-            ticks_are = shows.ticks_are;
+            told_are = shows.told_are;
             new_row = own-row (codes "new") (one_row (codes "new") (codes "true")) rows row refl;
-            tick_row = other-row (codes "tick") (one_row (codes "new") (codes "true")) rows refl ∙ shows.tick_row;
+            told_row = λ which. other-row (name_of which) (one_row (codes "new") (codes "true")) rows (is-apart which).new_is ∙ shows.told_row which;
             store_row = other-row (codes "store") (one_row (codes "new") (codes "true")) rows refl ∙ shows.store_row;
             spaces_row = other-row (codes "spaces") (one_row (codes "new") (codes "true")) rows refl ∙ shows.spaces_row;
             filled = shows.filled;
           }),
         )
 
-use-tick : (rows : List Row) (news : ℕ) (ticks names : List Text) (word : Text) → Shows rows (so_far news ticks names)
-    → Holds rows (Some (codes "tick", word ∷ [])) (so_far news (ticks ++ word ∷ []) names)
-use-tick rows news ticks names word shows = by shows.tick shows.ticks_are shows.tick_row
+-- a first value of an option is used, and a second one is refused
+abbrev told_with : Valued → Text → (Valued → Option Text) → Valued → Option Text
+told_with tick_value word told tick_value = Some word
+told_with tick_value word told make_value = told make_value
+told_with make_value word told tick_value = told tick_value
+told_with make_value word told make_value = Some word
+
+added-told : (which other : Valued) (word : Text) (values : Valued → List Text) (told : Valued → Option Text) → values which ≡ [] → ((each : Valued) → values each ≡ option_to_list (told each))
+    → added which word values other ≡ option_to_list (told_with which word told other)
+added-told tick_value tick_value word values told none are = ap (λ (t : List Text). t ++ word ∷ []) none
+added-told tick_value make_value word values told none are = are make_value
+added-told make_value tick_value word values told none are = are tick_value
+added-told make_value make_value word values told none are = ap (λ (t : List Text). t ++ word ∷ []) none
+
+told-rows : (which other : Valued) (word : Text) (rows : List Row) (told : Valued → Option Text) → row_by (name_of which) rows ≡ None
+    → ((each : Valued) → row_by (name_of each) rows ≡ option_map (one_row (name_of each)) (told each))
+    → row_by (name_of other) (rows ++ one_row (name_of which) word ∷ []) ≡ option_map (one_row (name_of other)) (told_with which word told other)
+told-rows tick_value tick_value word rows told none are = own-row (codes "tick") (one_row (codes "tick") word) rows none refl
+told-rows tick_value make_value word rows told none are = other-row (codes "make") (one_row (codes "tick") word) rows refl ∙ are make_value
+told-rows make_value tick_value word rows told none are = other-row (codes "tick") (one_row (codes "make") word) rows refl ∙ are tick_value
+told-rows make_value make_value word rows told none are = own-row (codes "make") (one_row (codes "make") word) rows none refl
+
+value-refused : (which : Valued) (rows : List Row) (word first : Text) → row_by (name_of which) rows ≡ Some (one_row (name_of which) first)
+    → has_fault (settle_fault arguments false (held_with rows (Some (name_of which, word ∷ [])))) ≡ true
+value-refused tick_value rows word first row = rw (has-row (codes "tick") rows _ row) refl
+value-refused make_value rows word first row = rw (has-row (codes "make") rows _ row) refl
+
+value-used : (which : Valued) (rows : List Row) (word : Text) → row_by (name_of which) rows ≡ None
+    → (settle_fault arguments false (held_with rows (Some (name_of which, word ∷ []))) ≡ []) × (settled_rows arguments (Some (name_of which, word ∷ [])) rows ≡ rows ++ one_row (name_of which) word ∷ [])
+value-used tick_value rows word row = (rw (has-row (codes "tick") rows _ row) refl, used-first (codes "tick") word rows row)
+value-used make_value rows word row = (rw (has-row (codes "make") rows _ row) refl, used-first (codes "make") word rows row)
+
+added-own : (which : Valued) (word : Text) (values : Valued → List Text) → added which word values which ≡ values which ++ word ∷ []
+added-own tick_value word values = refl
+added-own make_value word values = refl
+
+use-value : (which : Valued) (rows : List Row) (news : ℕ) (values : Valued → List Text) (names : List Text) (word : Text) → Shows rows news values names
+    → Holds rows (Some (name_of which, word ∷ [])) news (added which word values) names
+use-value which rows news values names word shows = by (shows.told which) (shows.told_are which) (shows.told_row which)
   where
-    by : (tick : Option Text) → ticks ≡ option_to_list tick → row_by (codes "tick") rows ≡ option_map (one_row (codes "tick")) tick
-        → Holds rows (Some (codes "tick", word ∷ [])) (so_far news (ticks ++ word ∷ []) names)
+    by : (told : Option Text) → values which ≡ option_to_list told → row_by (name_of which) rows ≡ option_map (one_row (name_of which)) told
+        → Holds rows (Some (name_of which, word ∷ [])) news (added which word values) names
     by (Some first) is row =
-        inr (rw (has-row (codes "tick") rows _ row) refl, subst (λ t. IsTooMuch (so_far news (t ++ word ∷ []) names)) (sym is) (two-ticks news first word names))
+        inr (value-refused which rows word first row, two-values which news first word (added which word values) names (added-own which word values ∙ ap (λ (t : List Text). t ++ word ∷ []) is))
     by None is row =
+        let used = value-used which rows word row in
         inl (
-          rw (has-row (codes "tick") rows _ row) refl,
-          subst (λ r. Shows r (so_far news (ticks ++ word ∷ []) names)) (sym (used-first (codes "tick") word rows row)) (record {
+          used.0,
+          subst (λ r. Shows r news (added which word values) names) (sym used.1) (record {
             fresh = shows.fresh;
-            tick = Some word;
+            told = told_with which word shows.told;
             news_are = shows.news_are;
-            ticks_are = ap (λ t. t ++ word ∷ []) is;
-            new_row = other-row (codes "new") (one_row (codes "tick") word) rows refl ∙ shows.new_row;
-            tick_row = own-row (codes "tick") (one_row (codes "tick") word) rows row refl;
-            store_row = other-row (codes "store") (one_row (codes "tick") word) rows refl ∙ shows.store_row;
-            spaces_row = other-row (codes "spaces") (one_row (codes "tick") word) rows refl ∙ shows.spaces_row;
+            told_are = λ other. added-told which other word values shows.told is shows.told_are;
+            new_row = other-row (codes "new") (one_row (name_of which) word) rows (is-apart which).is_new ∙ shows.new_row;
+            told_row = λ other. told-rows which other word rows shows.told row shows.told_row;
+            store_row = other-row (codes "store") (one_row (name_of which) word) rows (is-apart which).is_store ∙ shows.store_row;
+            spaces_row = other-row (codes "spaces") (one_row (name_of which) word) rows (is-apart which).are_spaces ∙ shows.spaces_row;
             filled = shows.filled;
           }),
         )
 
-use-store : (rows : List Row) (news : ℕ) (ticks : List Text) (word : Text) → Shows rows (so_far news ticks []) → Holds rows (Some (codes "store", word ∷ [])) (so_far news ticks (word ∷ []))
-use-store rows news ticks [] shows = inr (rw (has-row (codes "store") rows _ shows.store_row) refl, empty-name news ticks)
-use-store rows news ticks (x ∷ xs) shows =
+use-store : (rows : List Row) (news : ℕ) (values : Valued → List Text) (word : Text) → Shows rows news values [] → Holds rows (Some (codes "store", word ∷ [])) news values (word ∷ [])
+use-store rows news values [] shows = inr (rw (has-row (codes "store") rows _ shows.store_row) refl, empty-name news values)
+use-store rows news values (x ∷ xs) shows =
     let long : nat_lt 0 (length (x ∷ xs)) ≡ true = lt-ltb 0 (length (x ∷ xs)) (omega arith) in
     inl (
       rw (has-row (codes "store") rows _ shows.store_row, long) refl,
-      subst (λ r. Shows r (so_far news ticks ((x ∷ xs) ∷ []))) (sym (used-first (codes "store") (x ∷ xs) rows shows.store_row)) (record {
+      subst (λ r. Shows r news values ((x ∷ xs) ∷ [])) (sym (used-first (codes "store") (x ∷ xs) rows shows.store_row)) (record {
         fresh = shows.fresh;
-        tick = shows.tick;
+        told = shows.told;
         news_are = shows.news_are;
-        ticks_are = shows.ticks_are;
+        told_are = shows.told_are;
         new_row = other-row (codes "new") (one_row (codes "store") (x ∷ xs)) rows refl ∙ shows.new_row;
-        tick_row = other-row (codes "tick") (one_row (codes "store") (x ∷ xs)) rows refl ∙ shows.tick_row;
+        told_row = λ which. other-row (name_of which) (one_row (codes "store") (x ∷ xs)) rows (is-apart which).store_is ∙ shows.told_row which;
         store_row = own-row (codes "store") (one_row (codes "store") (x ∷ xs)) rows shows.store_row refl;
         spaces_row = other-row (codes "spaces") (one_row (codes "store") (x ∷ xs)) rows refl ∙ shows.spaces_row;
         filled = le-leb 1 (length (x ∷ xs)) (omega arith);
@@ -287,19 +356,19 @@ space-rows rows word (space ∷ spaces) row = (
   λ other differs. unchanged-row (codes "spaces") (one_more word) (λ r. refl) (one_row (codes "spaces") word ∷ []) other differs rows (row_of_spaces space spaces) row,
 )
 
-use-space : (rows : List Row) (news : ℕ) (ticks : List Text) (name : Text) (spaces : List Text) (word : Text) → Shows rows (so_far news ticks (name ∷ spaces))
-    → Holds rows (Some (codes "spaces", word ∷ [])) (so_far news ticks (name ∷ (spaces ++ word ∷ [])))
-use-space rows news ticks name spaces word shows =
+use-space : (rows : List Row) (news : ℕ) (values : Valued → List Text) (name : Text) (spaces : List Text) (word : Text) → Shows rows news values (name ∷ spaces)
+    → Holds rows (Some (codes "spaces", word ∷ [])) news values (name ∷ (spaces ++ word ∷ []))
+use-space rows news values name spaces word shows =
     let after = space-rows rows word spaces shows.spaces_row in
     inl (
       refl,
       record {
         fresh = shows.fresh;
-        tick = shows.tick;
+        told = shows.told;
         news_are = shows.news_are;
-        ticks_are = shows.ticks_are;
+        told_are = shows.told_are;
         new_row = after.1 (codes "new") refl ∙ shows.new_row;
-        tick_row = after.1 (codes "tick") refl ∙ shows.tick_row;
+        told_row = λ which. after.1 (name_of which) (is-apart which).spaces_are ∙ shows.told_row which;
         store_row = after.1 (codes "store") refl ∙ shows.store_row;
         spaces_row = after.0;
         filled = shows.filled;
@@ -321,9 +390,9 @@ waiting_by true = positional
 abbrev walk_at : Bool → Bool → ℕ → List Row → Option (Text × List Text) → Walk
 walk_at ended behind place rows pending = record { held = held_with rows pending; waiting = waiting_by behind; position = place; is_trailing = ended; stopped = None }
 
--- the same where the value of `--tick` is due
-abbrev due_at : Bool → ℕ → List Row → Walk
-due_at ended place rows = record { held = held_with rows (Some (codes "tick", [])); waiting = option (codes "tick"); position = place; is_trailing = ended; stopped = None }
+-- the same where the value of an option is due
+abbrev due_at : Valued → Bool → ℕ → List Row → Walk
+due_at which ended place rows = record { held = held_with rows (Some (name_of which, [])); waiting = option (name_of which); position = place; is_trailing = ended; stopped = None }
 
 abbrev end_from : Walk → List Text → Held
 end_from walk words = (fold (walked arguments []) walk words).held
@@ -346,13 +415,13 @@ texts_of id rows = unwrap_or (all_of id rows) []
 -- what was given has a name that isn't empty, and each option at most once, and the rows have just that
 pub record Found (given : Option Parsed) (rows : List Row) : Type 0 where
   pub fresh : Bool
-  pub tick : Option Text
+  pub told : Valued → Option Text
   pub store : Text
   pub spaces : List Text
-  pub given_is : given ≡ Some (so_far (if fresh then 1 else 0) (option_to_list tick) (store ∷ spaces))
+  pub given_is : given ≡ Some (so_far (if fresh then 1 else 0) (λ which. option_to_list (told which)) (store ∷ spaces))
   pub filled : nat_le 1 (length store) ≡ true
   pub new_is : one_of (codes "new") rows ≡ Some (bool_text fresh)
-  pub tick_is : first_of (codes "tick") rows ≡ tick
+  pub told_is : (which : Valued) → first_of (name_of which) rows ≡ told which
   pub store_is : first_of (codes "store") rows ≡ Some store
   pub spaces_are : texts_of (codes "spaces") rows ≡ spaces
 
@@ -388,18 +457,21 @@ module _ (rows : List Row) where
   second_added = if has_row (codes "tick") first_added then first_added else first_added
 
   abbrev third_added : List Row
-  third_added = if has_row (codes "store") second_added then second_added else second_added
+  third_added = if has_row (codes "make") second_added then second_added else second_added
+
+  abbrev fourth_added : List Row
+  fourth_added = if has_row (codes "store") third_added then third_added else third_added
 
   with-defaults : fold with_default rows arguments ≡ with_first rows
   with-defaults =
-      same-both (has_row (codes "spaces") third_added) third_added ∙ same-both (has_row (codes "store") second_added) second_added
-      ∙ same-both (has_row (codes "tick") first_added) first_added
+      same-both (has_row (codes "spaces") fourth_added) fourth_added ∙ same-both (has_row (codes "store") third_added) third_added
+      ∙ same-both (has_row (codes "make") second_added) second_added ∙ same-both (has_row (codes "tick") first_added) first_added
 
   defaults-pass : defaults_fault rows arguments ≡ []
   unfolding defaults_fault
   defaults-pass =
-      all-pass _ _ _ _ (same-both (has_row (codes "new") rows || false) []) (or-true (has_row (codes "tick") first_added) [] _)
-      (or-true (has_row (codes "store") second_added) [] _) (or-true (has_row (codes "spaces") third_added) [] _)
+      all-pass _ _ _ _ _ (same-both (has_row (codes "new") rows || false) []) (or-true (has_row (codes "tick") first_added) [] _)
+      (or-true (has_row (codes "make") second_added) [] _) (or-true (has_row (codes "store") third_added) [] _) (or-true (has_row (codes "spaces") fourth_added) [] _)
 
 defaulted : (rows : List Row) (fresh : Bool) → row_by (codes "new") rows ≡ (if fresh then Some (one_row (codes "new") (codes "true")) else None)
     → ((other : Text) → bytes_eq (codes "new") other ≡ false → row_by other (with_first rows) ≡ row_by other rows)
@@ -414,22 +486,22 @@ defaulted rows false row =
       ap (one_of (codes "new")) same ∙ ap (option_and_then row_text) (own-row (codes "new") default_row rows row refl),
     )
 
-nothing-more : (news : ℕ) (ticks names : List Text) → joined (so_far news ticks names) (names_alone []) ≡ so_far news ticks names
-nothing-more news ticks names = same-given _ _ _ _ _ _ (omega arith) (append-nil ticks) (append-nil names)
+nothing-more : (news : ℕ) (values : Valued → List Text) (names : List Text) → joined (so_far news values names) (names_alone []) ≡ so_far news values names
+nothing-more news values names = same-given _ _ _ _ _ _ _ _ (omega arith) (append-nil (values tick_value)) (append-nil (values make_value)) (append-nil names)
 
-only-value : (tick : Option Text) → option_and_then (λ r. slice_get r.values 0) (option_map (one_row (codes "tick")) tick) ≡ tick
-only-value None = refl
-only-value (Some text) = refl
+only-value : (name : Text) (told : Option Text) → option_and_then (λ r. slice_get r.values 0) (option_map (one_row name) told) ≡ told
+only-value name None = refl
+only-value name (Some text) = refl
 
 all-values : (spaces : List Text) → unwrap_or (option_map (λ r. r.values) (spaces_row spaces)) [] ≡ spaces
 all-values [] = refl
 all-values (space ∷ spaces) = refl
 
-end-of : (rows : List Row) (pending : Option (Text × List Text)) (news : ℕ) (ticks names : List Text) → Holds rows pending (so_far news ticks names)
-    → Finds (Some (so_far news ticks names)) (end_fault (held_with rows pending)) (finished arguments (held_with rows pending))
-end-of rows pending news ticks names (inr (fails, too_much)) =
-    inl (or-first (settle_fault arguments false (held_with rows pending)) _ fails, ap asked_by (sym (nothing-more news ticks names)) ∙ too_much (names_alone []))
-end-of rows pending news ticks names (inl (passes, shows)) = by names shows
+end-of : (rows : List Row) (pending : Option (Text × List Text)) (news : ℕ) (values : Valued → List Text) (names : List Text) → Holds rows pending news values names
+    → Finds (Some (so_far news values names)) (end_fault (held_with rows pending)) (finished arguments (held_with rows pending))
+end-of rows pending news values names (inr (fails, too_much)) =
+    inl (or-first (settle_fault arguments false (held_with rows pending)) _ fails, ap asked_by (sym (nothing-more news values names)) ∙ too_much (names_alone []))
+end-of rows pending news values names (inl (passes, shows)) = by names shows
   where
     now : List Row
     now = settled_rows arguments pending rows
@@ -437,12 +509,12 @@ end-of rows pending news ticks names (inl (passes, shows)) = by names shows
     checked : end_fault (held_with rows pending) ≡ check_fault top (with_first now) false
     checked = rw (passes, defaults-pass now) (ap (λ r. check_fault top r false) (with-defaults now))
 
-    by : (names : List Text) → Shows now (so_far news ticks names)
-        → Finds (Some (so_far news ticks names)) (end_fault (held_with rows pending)) (finished arguments (held_with rows pending))
+    by : (names : List Text) → Shows now news values names
+        → Finds (Some (so_far news values names)) (end_fault (held_with rows pending)) (finished arguments (held_with rows pending))
     by [] shows =
         let has = defaulted now shows.fresh shows.new_row in
         let required : has_fault (check_fault top (with_first now) false) ≡ true = rw (has.0 (codes "store") refl ∙ shows.store_row) refl in
-        inl (ap has_fault checked ∙ required, none-by-names (so_far news ticks []) refl)
+        inl (ap has_fault checked ∙ required, none-by-names (so_far news values []) refl)
     by (name ∷ spaces) shows =
         let has = defaulted now shows.fresh shows.new_row in
         let given : check_fault top (with_first now) false ≡ [] = rw (has.0 (codes "store") refl ∙ shows.store_row) refl in
@@ -450,13 +522,14 @@ end-of rows pending news ticks names (inl (passes, shows)) = by names shows
           checked ∙ given,
           record {
             fresh = shows.fresh;
-            tick = shows.tick;
+            told = shows.told;
             store = name;
             spaces = spaces;
-            given_is = ap Some (same-given _ _ _ _ _ _ shows.news_are shows.ticks_are refl);
+            given_is = ap Some (same-given _ _ _ _ _ _ _ _ shows.news_are (shows.told_are tick_value) (shows.told_are make_value) refl);
             filled = shows.filled;
             new_is = ap (one_of (codes "new")) (with-defaults now) ∙ has.1;
-            tick_is = ap (first_of (codes "tick")) (with-defaults now) ∙ ap (option_and_then (λ r. slice_get r.values 0)) (has.0 (codes "tick") refl ∙ shows.tick_row) ∙ only-value shows.tick;
+            told_is = λ which. ap (first_of (name_of which)) (with-defaults now)
+                ∙ ap (option_and_then (λ r. slice_get r.values 0)) (has.0 (name_of which) (is-apart which).new_is ∙ shows.told_row which) ∙ only-value (name_of which) (shows.told which);
             store_is = ap (first_of (codes "store")) (with-defaults now) ∙ ap (option_and_then (λ r. slice_get r.values 0)) (has.0 (codes "store") refl ∙ shows.store_row);
             spaces_are = ap (texts_of (codes "spaces")) (with-defaults now)
                 ∙ ap (λ row. unwrap_or (option_map (λ r. r.values) row) []) (has.0 (codes "spaces") refl ∙ shows.spaces_row) ∙ all-values spaces;
@@ -485,21 +558,21 @@ given_in true words = Some (names_alone words)
 given_in false words = given_by words
 
 -- what the library finds in the words that follow what was given; `ended`: they are names alone
-abbrev FindsAt : Bool → Bool → List Text → List Row → Option (Text × List Text) → ℕ → List Text → List Text → Type 0
-FindsAt ended behind words rows pending news ticks names =
-    FindsFrom (option_map (joined (so_far news ticks names)) (given_in ended words)) (walk_at ended behind (place_of names) rows pending) words
+abbrev FindsAt : Bool → Bool → List Text → List Row → Option (Text × List Text) → ℕ → (Valued → List Text) → List Text → Type 0
+FindsAt ended behind words rows pending news values names =
+    FindsFrom (option_map (joined (so_far news values names)) (given_in ended words)) (walk_at ended behind (place_of names) rows pending) words
 
--- the same where the value of `--tick` is due
-abbrev FindsDue : List Text → List Row → ℕ → List Text → List Text → Type 0
-FindsDue words rows news ticks names =
-    FindsFrom (option_map (joined (so_far news ticks names)) (given_behind_tick words)) (due_at false (place_of names) rows) words
+-- the same where the value of an option is due
+abbrev FindsDue : Valued → List Text → List Row → ℕ → (Valued → List Text) → List Text → Type 0
+FindsDue which words rows news values names =
+    FindsFrom (option_map (joined (so_far news values names)) (given_behind (with_value which) words)) (due_at which false (place_of names) rows) words
 
 -- what the library finds from each stand between two words
 record FindsAll (words : List Text) : Type 0 where
-  free : (ended behind : Bool) (rows : List Row) (pending : Option (Text × List Text)) (news : ℕ) (ticks names : List Text) → Holds rows pending (so_far news ticks names)
-      → FindsAt ended behind words rows pending news ticks names
-  due : (rows : List Row) (news : ℕ) (ticks names : List Text) → Shows rows (so_far news ticks names)
-      → FindsDue words rows news ticks names
+  free : (ended behind : Bool) (rows : List Row) (pending : Option (Text × List Text)) (news : ℕ) (values : Valued → List Text) (names : List Text) → Holds rows pending news values names
+      → FindsAt ended behind words rows pending news values names
+  due : (which : Valued) (rows : List Row) (news : ℕ) (values : Valued → List Text) (names : List Text) → Shows rows news values names
+      → FindsDue which words rows news values names
 
 -- ---- a name
 
@@ -543,10 +616,10 @@ module _ (rest : List Text) (later : FindsAll rest) (ended : Bool) (word : Text)
   unfolding walked
   name-walked place rows pending = ap (λ (met : Held × Step). after_step arguments word (walk_at ended behind place rows pending) met.0 met.1) (name-met ended word is behind place (held_with rows pending))
 
-  name-moved : (news : ℕ) (ticks names : List Text) → option_map (joined (so_far news ticks (names ++ word ∷ []))) (given_in ended rest) ≡ option_map (joined (so_far news ticks names)) (given_in ended (word ∷ rest))
-  name-moved news ticks names =
-      moved (so_far news ticks names) (so_far news ticks (names ++ word ∷ [])) (with_name word) (name-moves news ticks names word) (given_in ended rest)
-      ∙ ap (option_map (joined (so_far news ticks names))) (sym (name-given ended word is rest))
+  name-moved : (news : ℕ) (values : Valued → List Text) (names : List Text) → option_map (joined (so_far news values (names ++ word ∷ []))) (given_in ended rest) ≡ option_map (joined (so_far news values names)) (given_in ended (word ∷ rest))
+  name-moved news values names =
+      moved (so_far news values names) (so_far news values (names ++ word ∷ [])) (with_name word) (name-moves news values names word) (given_in ended rest)
+      ∙ ap (option_map (joined (so_far news values names))) (sym (name-given ended word is rest))
 
   first-turn : (rows : List Row) (pending : Option (Text × List Text)) → turn_fault top [] (walk_at ended behind 1 rows pending) word ≡ settle_fault arguments false (held_with rows pending)
   first-turn rows pending = name-turn 1 rows pending ∙ never (is_pending store_argument pending) [] (settle_fault arguments false (held_with rows pending))
@@ -566,30 +639,33 @@ module _ (rest : List Text) (later : FindsAll rest) (ended : Bool) (word : Text)
       ∙ ap₂ (λ (held : Held) (trailing : Bool). record { held = pushed (codes "spaces") word held; waiting = positional; position = 2; is_trailing = trailing; stopped = None })
       (never (is_pending spaces_argument pending) (held_with rows pending) (settled arguments (held_with rows pending))) (or-false ended)
 
-  name-comes : (rows : List Row) (pending : Option (Text × List Text)) (news : ℕ) (ticks names : List Text) → Holds rows pending (so_far news ticks names)
-      → FindsAt ended behind (word ∷ rest) rows pending news ticks names
-  name-comes rows pending news ticks [] (inl (passes, shows)) =
+  name-comes : (rows : List Row) (pending : Option (Text × List Text)) (news : ℕ) (values : Valued → List Text) (names : List Text) → Holds rows pending news values names
+      → FindsAt ended behind (word ∷ rest) rows pending news values names
+  name-comes rows pending news values [] (inl (passes, shows)) =
       goes-on (walk_at ended behind 1 rows pending) (walk_at ended false 2 (settled_rows arguments pending rows) (Some (codes "store", word ∷ []))) word rest
-      _ (option_map (joined (so_far news ticks (word ∷ []))) (given_in ended rest)) (first-turn rows pending ∙ passes) (first-walked rows pending) (name-moved news ticks [])
-      (later.free ended false (settled_rows arguments pending rows) (Some (codes "store", word ∷ [])) news ticks (word ∷ []) (use-store (settled_rows arguments pending rows) news ticks word shows))
-  name-comes rows pending news ticks [] (inr (fails, too_much)) =
-      refused (walk_at ended behind 1 rows pending) word rest _ (none-more (so_far news ticks []) (given_in ended (word ∷ rest)) too_much) (ap has_fault (first-turn rows pending) ∙ fails)
-  name-comes rows pending news ticks (name ∷ spaces) (inl (passes, shows)) =
+      _ (option_map (joined (so_far news values (word ∷ []))) (given_in ended rest)) (first-turn rows pending ∙ passes) (first-walked rows pending) (name-moved news values [])
+      (later.free ended false (settled_rows arguments pending rows) (Some (codes "store", word ∷ [])) news values (word ∷ []) (use-store (settled_rows arguments pending rows) news values word shows))
+  name-comes rows pending news values [] (inr (fails, too_much)) =
+      refused (walk_at ended behind 1 rows pending) word rest _ (none-more (so_far news values []) (given_in ended (word ∷ rest)) too_much) (ap has_fault (first-turn rows pending) ∙ fails)
+  name-comes rows pending news values (name ∷ spaces) (inl (passes, shows)) =
       goes-on (walk_at ended behind 2 rows pending) (walk_at ended true 2 (settled_rows arguments pending rows) (Some (codes "spaces", word ∷ []))) word rest
-      _ (option_map (joined (so_far news ticks (name ∷ (spaces ++ word ∷ [])))) (given_in ended rest)) (second-turn rows pending ∙ passes) (second-walked rows pending) (name-moved news ticks (name ∷ spaces))
-      (later.free ended true (settled_rows arguments pending rows) (Some (codes "spaces", word ∷ [])) news ticks (name ∷ (spaces ++ word ∷ []))
-      (use-space (settled_rows arguments pending rows) news ticks name spaces word shows))
-  name-comes rows pending news ticks (name ∷ spaces) (inr (fails, too_much)) =
-      refused (walk_at ended behind 2 rows pending) word rest _ (none-more (so_far news ticks (name ∷ spaces)) (given_in ended (word ∷ rest)) too_much) (ap has_fault (second-turn rows pending) ∙ fails)
+      _ (option_map (joined (so_far news values (name ∷ (spaces ++ word ∷ [])))) (given_in ended rest)) (second-turn rows pending ∙ passes) (second-walked rows pending) (name-moved news values (name ∷ spaces))
+      (later.free ended true (settled_rows arguments pending rows) (Some (codes "spaces", word ∷ [])) news values (name ∷ (spaces ++ word ∷ []))
+      (use-space (settled_rows arguments pending rows) news values name spaces word shows))
+  name-comes rows pending news values (name ∷ spaces) (inr (fails, too_much)) =
+      refused (walk_at ended behind 2 rows pending) word rest _ (none-more (so_far news values (name ∷ spaces)) (given_in ended (word ∷ rest)) too_much) (ap has_fault (second-turn rows pending) ∙ fails)
 
 -- ---- options
 
 -- a value that is due stays so behind `--`, and the next name or the end shows it
-stays-faulty : (rows : List Row) (names : List Text) (words : List Text) → has_fault (fault_from (due_at true (place_of names) rows) words) ≡ true
+stays-faulty : (which : Valued) (rows : List Row) (names : List Text) (words : List Text) → has_fault (fault_from (due_at which true (place_of names) rows) words) ≡ true
 unfolding walk_fault
-stays-faulty rows names [] = refl
-stays-faulty rows [] (word ∷ words) = refl
-stays-faulty rows (name ∷ names) (word ∷ words) = refl
+stays-faulty tick_value rows names [] = refl
+stays-faulty tick_value rows [] (word ∷ words) = refl
+stays-faulty tick_value rows (name ∷ names) (word ∷ words) = refl
+stays-faulty make_value rows names [] = refl
+stays-faulty make_value rows [] (word ∷ words) = refl
+stays-faulty make_value rows (name ∷ names) (word ∷ words) = refl
 
 -- a word that begins an option looks the same behind a space
 end-met : (behind : Bool) (place : ℕ) (rows : List Row) (pending : Option (Text × List Text))
@@ -610,189 +686,250 @@ unfolding walked
 new-met false place rows pending = (refl, refl)
 new-met true place rows pending = (refl, refl)
 
-value-met : (text : Text) (behind : Bool) (place : ℕ) (rows : List Row) (pending : Option (Text × List Text)) → IsUse (codes "--tick=" ++ text) (codes "tick", text ∷ []) behind place rows pending
+value-met : (which : Valued) (text : Text) (behind : Bool) (place : ℕ) (rows : List Row) (pending : Option (Text × List Text))
+    → IsUse (codes "--" ++ name_of which ++ codes "=" ++ text) (name_of which, text ∷ []) behind place rows pending
 unfolding walked
-value-met text false place rows pending = (refl, refl)
-value-met text true place rows pending = (refl, refl)
+value-met tick_value text false place rows pending = (refl, refl)
+value-met tick_value text true place rows pending = (refl, refl)
+value-met make_value text false place rows pending = (refl, refl)
+value-met make_value text true place rows pending = (refl, refl)
 
-tick-met : (behind : Bool) (place : ℕ) (rows : List Row) (pending : Option (Text × List Text))
-    → (turn_fault top [] (walk_at false behind place rows pending) (codes "--tick") ≡ or_else (settle_fault arguments false (held_with rows pending)) [])
-    × (walked arguments [] (walk_at false behind place rows pending) (codes "--tick") ≡ due_at false place (settled_rows arguments pending rows))
+value-given : (which : Valued) (text : Text) (words : List Text) → given_by ((codes "--" ++ name_of which ++ codes "=" ++ text) ∷ words) ≡ option_map (with_value which text) (given_by words)
+value-given tick_value text words = refl
+value-given make_value text words = refl
+
+alone-met : (which : Valued) (behind : Bool) (place : ℕ) (rows : List Row) (pending : Option (Text × List Text))
+    → (turn_fault top [] (walk_at false behind place rows pending) (codes "--" ++ name_of which) ≡ or_else (settle_fault arguments false (held_with rows pending)) [])
+    × (walked arguments [] (walk_at false behind place rows pending) (codes "--" ++ name_of which) ≡ due_at which false place (settled_rows arguments pending rows))
 unfolding walked
-tick-met false place rows pending = (refl, refl)
-tick-met true place rows pending = (refl, refl)
+alone-met tick_value false place rows pending = (refl, refl)
+alone-met tick_value true place rows pending = (refl, refl)
+alone-met make_value false place rows pending = (refl, refl)
+alone-met make_value true place rows pending = (refl, refl)
+
+alone-given : (which : Valued) (words : List Text) → given_by ((codes "--" ++ name_of which) ∷ words) ≡ given_behind (with_value which) words
+alone-given tick_value words = refl
+alone-given make_value words = refl
 
 module _ (rest : List Text) (later : FindsAll rest) (behind : Bool) where
-  end-comes : (rows : List Row) (pending : Option (Text × List Text)) (news : ℕ) (ticks names : List Text) → Holds rows pending (so_far news ticks names)
-      → FindsAt false behind (codes "--" ∷ rest) rows pending news ticks names
-  end-comes rows pending news ticks names holds =
+  end-comes : (rows : List Row) (pending : Option (Text × List Text)) (news : ℕ) (values : Valued → List Text) (names : List Text) → Holds rows pending news values names
+      → FindsAt false behind (codes "--" ∷ rest) rows pending news values names
+  end-comes rows pending news values names holds =
       let met = end-met behind (place_of names) rows pending in
       goes-on (walk_at false behind (place_of names) rows pending) (walk_at true behind (place_of names) rows pending) (codes "--") rest
-      _ (option_map (joined (so_far news ticks names)) (given_in true rest)) met.0 met.1 refl (later.free true behind rows pending news ticks names holds)
+      _ (option_map (joined (so_far news values names)) (given_in true rest)) met.0 met.1 refl (later.free true behind rows pending news values names holds)
 
-  use-comes : (word : Text) (used : Text × List Text) (step : Parsed → Parsed) (rows : List Row) (pending : Option (Text × List Text)) (news new_news : ℕ) (ticks new_ticks names : List Text)
+  use-comes : (word : Text) (used : Text × List Text) (step : Parsed → Parsed) (rows : List Row) (pending : Option (Text × List Text)) (news new_news : ℕ) (values new_values : Valued → List Text) (names : List Text)
       → given_by (word ∷ rest) ≡ option_map step (given_by rest)
-      → ((more : Parsed) → joined (so_far news ticks names) (step more) ≡ joined (so_far new_news new_ticks names) more)
+      → ((more : Parsed) → joined (so_far news values names) (step more) ≡ joined (so_far new_news new_values names) more)
       → IsUse word used behind (place_of names) rows pending
-      → (Shows (settled_rows arguments pending rows) (so_far news ticks names) → Holds (settled_rows arguments pending rows) (Some used) (so_far new_news new_ticks names))
-      → Holds rows pending (so_far news ticks names)
-      → FindsAt false behind (word ∷ rest) rows pending news ticks names
-  use-comes word used step rows pending news new_news ticks new_ticks names given moves met shown (inr (fails, too_much)) =
-      refused (walk_at false behind (place_of names) rows pending) word rest _ (none-more (so_far news ticks names) (given_by (word ∷ rest)) too_much)
+      → (Shows (settled_rows arguments pending rows) news values names → Holds (settled_rows arguments pending rows) (Some used) new_news new_values names)
+      → Holds rows pending news values names
+      → FindsAt false behind (word ∷ rest) rows pending news values names
+  use-comes word used step rows pending news new_news values new_values names given moves met shown (inr (fails, too_much)) =
+      refused (walk_at false behind (place_of names) rows pending) word rest _ (none-more (so_far news values names) (given_by (word ∷ rest)) too_much)
       (ap has_fault met.0 ∙ or-first (or_else (settle_fault arguments false (held_with rows pending)) _) [] (or-first (settle_fault arguments false (held_with rows pending)) _ fails))
-  use-comes word used step rows pending news new_news ticks new_ticks names given moves met shown (inl (passes, shows)) = by (shown shows)
+  use-comes word used step rows pending news new_news values new_values names given moves met shown (inl (passes, shows)) = by (shown shows)
     where
-      same : option_map (joined (so_far new_news new_ticks names)) (given_by rest) ≡ option_map (joined (so_far news ticks names)) (given_by (word ∷ rest))
+      same : option_map (joined (so_far new_news new_values names)) (given_by rest) ≡ option_map (joined (so_far news values names)) (given_by (word ∷ rest))
       same =
-          moved (so_far news ticks names) (so_far new_news new_ticks names) step moves (given_by rest) ∙ ap (option_map (joined (so_far news ticks names))) (sym given)
+          moved (so_far news values names) (so_far new_news new_values names) step moves (given_by rest) ∙ ap (option_map (joined (so_far news values names))) (sym given)
 
       first : turn_fault top [] (walk_at false behind (place_of names) rows pending) word ≡ or_else (settle_fault arguments false (held_with (settled_rows arguments pending rows) (Some used))) []
       first = met.0 ∙ ap (λ kinds. or_else (or_else kinds (settle_fault arguments false (held_with (settled_rows arguments pending rows) (Some used)))) []) passes
 
-      by : Holds (settled_rows arguments pending rows) (Some used) (so_far new_news new_ticks names)
-          → FindsAt false behind (word ∷ rest) rows pending news ticks names
+      by : Holds (settled_rows arguments pending rows) (Some used) new_news new_values names
+          → FindsAt false behind (word ∷ rest) rows pending news values names
       by (inl (uses, has)) =
           goes-on (walk_at false behind (place_of names) rows pending) (walk_at false false (place_of names) (settled_rows arguments (Some used) (settled_rows arguments pending rows)) None) word rest
-          _ (option_map (joined (so_far new_news new_ticks names)) (given_by rest)) (first ∙ ap (λ kinds. or_else kinds []) uses) met.1 same
-          (later.free false false (settled_rows arguments (Some used) (settled_rows arguments pending rows)) None new_news new_ticks names (inl (refl, has)))
+          _ (option_map (joined (so_far new_news new_values names)) (given_by rest)) (first ∙ ap (λ kinds. or_else kinds []) uses) met.1 same
+          (later.free false false (settled_rows arguments (Some used) (settled_rows arguments pending rows)) None new_news new_values names (inl (refl, has)))
       by (inr (fails, too_much)) =
           refused (walk_at false behind (place_of names) rows pending) word rest _
-          (ap (option_and_then asked_by) (sym same) ∙ none-more (so_far new_news new_ticks names) (given_by rest) too_much)
+          (ap (option_and_then asked_by) (sym same) ∙ none-more (so_far new_news new_values names) (given_by rest) too_much)
           (ap has_fault first ∙ or-first (settle_fault arguments false (held_with (settled_rows arguments pending rows) (Some used))) [] fails)
 
-  new-comes : (rows : List Row) (pending : Option (Text × List Text)) (news : ℕ) (ticks names : List Text) → Holds rows pending (so_far news ticks names)
-      → FindsAt false behind (codes "--new" ∷ rest) rows pending news ticks names
-  new-comes rows pending news ticks names =
-      use-comes (codes "--new") (codes "new", []) with_new rows pending news (suc news) ticks ticks names refl (new-moves news ticks names) (new-met behind (place_of names) rows pending)
-      (use-new (settled_rows arguments pending rows) news ticks names)
+  new-comes : (rows : List Row) (pending : Option (Text × List Text)) (news : ℕ) (values : Valued → List Text) (names : List Text) → Holds rows pending news values names
+      → FindsAt false behind (codes "--new" ∷ rest) rows pending news values names
+  new-comes rows pending news values names =
+      use-comes (codes "--new") (codes "new", []) with_new rows pending news (suc news) values values names refl (new-moves news values names) (new-met behind (place_of names) rows pending)
+      (use-new (settled_rows arguments pending rows) news values names)
 
-  value-comes : (text : Text) (rows : List Row) (pending : Option (Text × List Text)) (news : ℕ) (ticks names : List Text) → Holds rows pending (so_far news ticks names)
-      → FindsAt false behind ((codes "--tick=" ++ text) ∷ rest) rows pending news ticks names
-  value-comes text rows pending news ticks names =
-      use-comes (codes "--tick=" ++ text) (codes "tick", text ∷ []) (with_tick text) rows pending news news ticks (ticks ++ text ∷ []) names refl (tick-moves news ticks names text)
-      (value-met text behind (place_of names) rows pending) (use-tick (settled_rows arguments pending rows) news ticks names text)
+  value-comes : (which : Valued) (text : Text) (rows : List Row) (pending : Option (Text × List Text)) (news : ℕ) (values : Valued → List Text) (names : List Text) → Holds rows pending news values names
+      → FindsAt false behind ((codes "--" ++ name_of which ++ codes "=" ++ text) ∷ rest) rows pending news values names
+  value-comes which text rows pending news values names =
+      use-comes (codes "--" ++ name_of which ++ codes "=" ++ text) (name_of which, text ∷ []) (with_value which text) rows pending news news values (added which text values) names (value-given which text rest)
+      (value-moves which news values names text) (value-met which text behind (place_of names) rows pending) (use-value which (settled_rows arguments pending rows) news values names text)
 
-  tick-comes : (rows : List Row) (pending : Option (Text × List Text)) (news : ℕ) (ticks names : List Text) → Holds rows pending (so_far news ticks names)
-      → FindsAt false behind (codes "--tick" ∷ rest) rows pending news ticks names
-  tick-comes rows pending news ticks names (inl (passes, shows)) =
-      let met = tick-met behind (place_of names) rows pending in
-      goes-on (walk_at false behind (place_of names) rows pending) (due_at false (place_of names) (settled_rows arguments pending rows)) (codes "--tick") rest
-      _ (option_map (joined (so_far news ticks names)) (given_behind_tick rest)) (met.0 ∙ ap (λ kinds. or_else kinds []) passes) met.1 refl
-      (later.due (settled_rows arguments pending rows) news ticks names shows)
-  tick-comes rows pending news ticks names (inr (fails, too_much)) =
-      refused (walk_at false behind (place_of names) rows pending) (codes "--tick") rest _ (none-more (so_far news ticks names) (given_by (codes "--tick" ∷ rest)) too_much)
-      (ap has_fault (tick-met behind (place_of names) rows pending).0 ∙ or-first (settle_fault arguments false (held_with rows pending)) [] fails)
+  alone-comes : (which : Valued) (rows : List Row) (pending : Option (Text × List Text)) (news : ℕ) (values : Valued → List Text) (names : List Text) → Holds rows pending news values names
+      → FindsAt false behind ((codes "--" ++ name_of which) ∷ rest) rows pending news values names
+  alone-comes which rows pending news values names (inl (passes, shows)) =
+      let met = alone-met which behind (place_of names) rows pending in
+      goes-on (walk_at false behind (place_of names) rows pending) (due_at which false (place_of names) (settled_rows arguments pending rows)) (codes "--" ++ name_of which) rest
+      _ (option_map (joined (so_far news values names)) (given_behind (with_value which) rest)) (met.0 ∙ ap (λ kinds. or_else kinds []) passes) met.1
+      (ap (option_map (joined (so_far news values names))) (sym (alone-given which rest))) (later.due which (settled_rows arguments pending rows) news values names shows)
+  alone-comes which rows pending news values names (inr (fails, too_much)) =
+      refused (walk_at false behind (place_of names) rows pending) (codes "--" ++ name_of which) rest _ (none-more (so_far news values names) (given_by ((codes "--" ++ name_of which) ∷ rest)) too_much)
+      (ap has_fault (alone-met which behind (place_of names) rows pending).0 ∙ or-first (settle_fault arguments false (held_with rows pending)) [] fails)
 
-  faulty-comes : (word : Text) → IsFaulty word → (rows : List Row) (pending : Option (Text × List Text)) (news : ℕ) (ticks names : List Text)
-      → FindsAt false behind (word ∷ rest) rows pending news ticks names
-  faulty-comes word is rows pending news ticks names =
-      refused (walk_at false behind (place_of names) rows pending) word rest _ (ap (λ o. option_and_then asked_by (option_map (joined (so_far news ticks names)) o)) (is.given rest))
+  faulty-comes : (word : Text) → IsFaulty word → (rows : List Row) (pending : Option (Text × List Text)) (news : ℕ) (values : Valued → List Text) (names : List Text)
+      → FindsAt false behind (word ∷ rest) rows pending news values names
+  faulty-comes word is rows pending news values names =
+      refused (walk_at false behind (place_of names) rows pending) word rest _ (ap (λ o. option_and_then asked_by (option_map (joined (so_far news values names)) o)) (is.given rest))
       (or-first (word_fault top [] false (waiting_by behind) word (held_with rows pending)) _ (is.fails (waiting_by behind) rows pending))
 
-  word-comes : (word : Text) (look : Look) → Looks look word → (rows : List Row) (pending : Option (Text × List Text)) (news : ℕ) (ticks names : List Text) → Holds rows pending (so_far news ticks names)
-      → FindsAt false behind (word ∷ rest) rows pending news ticks names
-  word-comes word plain is rows pending news ticks names = name-comes rest later false word is behind rows pending news ticks names
-  word-comes word faulty is rows pending news ticks names = λ holds. faulty-comes word is rows pending news ticks names
-  word-comes word ends is rows pending news ticks names =
-      subst (λ w. Holds rows pending (so_far news ticks names) → FindsAt false behind (w ∷ rest) rows pending news ticks names) (sym is)
-      (end-comes rows pending news ticks names)
-  word-comes word fresh is rows pending news ticks names =
-      subst (λ w. Holds rows pending (so_far news ticks names) → FindsAt false behind (w ∷ rest) rows pending news ticks names) (sym is)
-      (new-comes rows pending news ticks names)
-  word-comes word tick is rows pending news ticks names =
-      subst (λ w. Holds rows pending (so_far news ticks names) → FindsAt false behind (w ∷ rest) rows pending news ticks names) (sym is)
-      (tick-comes rows pending news ticks names)
-  word-comes word (tick_with text) is rows pending news ticks names =
-      subst (λ w. Holds rows pending (so_far news ticks names) → FindsAt false behind (w ∷ rest) rows pending news ticks names) (sym is)
-      (value-comes text rows pending news ticks names)
+  word-comes : (word : Text) (look : Look) → Looks look word → (rows : List Row) (pending : Option (Text × List Text)) (news : ℕ) (values : Valued → List Text) (names : List Text) → Holds rows pending news values names
+      → FindsAt false behind (word ∷ rest) rows pending news values names
+  word-comes word plain is rows pending news values names = name-comes rest later false word is behind rows pending news values names
+  word-comes word faulty is rows pending news values names = λ holds. faulty-comes word is rows pending news values names
+  word-comes word ends is rows pending news values names =
+      subst (λ w. Holds rows pending news values names → FindsAt false behind (w ∷ rest) rows pending news values names) (sym is)
+      (end-comes rows pending news values names)
+  word-comes word fresh is rows pending news values names =
+      subst (λ w. Holds rows pending news values names → FindsAt false behind (w ∷ rest) rows pending news values names) (sym is)
+      (new-comes rows pending news values names)
+  word-comes word (alone which) is rows pending news values names =
+      subst (λ w. Holds rows pending news values names → FindsAt false behind (w ∷ rest) rows pending news values names) (sym is)
+      (alone-comes which rows pending news values names)
+  word-comes word (valued which text) is rows pending news values names =
+      subst (λ w. Holds rows pending news values names → FindsAt false behind (w ∷ rest) rows pending news values names) (sym is)
+      (value-comes which text rows pending news values names)
 
-module _ (rest : List Text) (later : FindsAll rest) where
-  -- ---- where the value of `--tick` is due
+-- ---- where the value of an option is due
 
-  due-plain : (word : Text) → IsPlain word → (rows : List Row) (news : ℕ) (ticks names : List Text) → Shows rows (so_far news ticks names)
-      → FindsDue (word ∷ rest) rows news ticks names
+-- what the library makes of a name then
+abbrev met_due : Valued → Text → List Row → Held × Step
+met_due which word rows = plain_word arguments (option (name_of which)) word (held_with rows (Some (name_of which, [])))
+
+-- it is the value
+due-met : (which : Valued) (word : Text) (place : ℕ) (rows : List Row)
+    → (step_fault top place (met_due which word rows).0 (met_due which word rows).1 ≡ [])
+    × (after_step arguments word (due_at which false place rows) (met_due which word rows).0 (met_due which word rows).1 ≡ walk_at false false place rows (Some (name_of which, word ∷ [])))
+due-met tick_value word place rows = (refl, refl)
+due-met make_value word place rows = (refl, refl)
+
+-- `--` leaves it due
+due-ended : (which : Valued) (place : ℕ) (rows : List Row)
+    → (turn_fault top [] (due_at which false place rows) (codes "--") ≡ []) × (walked arguments [] (due_at which false place rows) (codes "--") ≡ due_at which true place rows)
+unfolding walked
+due-ended tick_value place rows = (refl, refl)
+due-ended make_value place rows = (refl, refl)
+
+-- and an option that the program has is refused
+due-option : (which : Valued) (rows : List Row) → has_fault (word_fault top [] false (option (name_of which)) (codes "--new") (held_with rows (Some (name_of which, [])))) ≡ true
+due-option tick_value rows = refl
+due-option make_value rows = refl
+
+due-alone : (which other : Valued) (rows : List Row) → has_fault (word_fault top [] false (option (name_of which)) (codes "--" ++ name_of other) (held_with rows (Some (name_of which, [])))) ≡ true
+due-alone tick_value tick_value rows = refl
+due-alone tick_value make_value rows = refl
+due-alone make_value tick_value rows = refl
+due-alone make_value make_value rows = refl
+
+due-valued : (which other : Valued) (text : Text) (rows : List Row)
+    → has_fault (word_fault top [] false (option (name_of which)) (codes "--" ++ name_of other ++ codes "=" ++ text) (held_with rows (Some (name_of which, [])))) ≡ true
+due-valued tick_value tick_value text rows = refl
+due-valued tick_value make_value text rows = refl
+due-valued make_value tick_value text rows = refl
+due-valued make_value make_value text rows = refl
+
+module _ (rest : List Text) (later : FindsAll rest) (which : Valued) where
+  due-plain : (word : Text) → IsPlain word → (rows : List Row) (news : ℕ) (values : Valued → List Text) (names : List Text) → Shows rows news values names
+      → FindsDue which (word ∷ rest) rows news values names
   unfolding walked
-  due-plain word is rows news ticks names shows =
-      let held : Held = held_with rows (Some (codes "tick", [])) in
-      let due : Waiting = option (codes "tick") in
-      goes-on (due_at false (place_of names) rows) (walk_at false false (place_of names) rows (Some (codes "tick", word ∷ []))) word rest _ (option_map (joined (so_far news (ticks ++ word ∷ []) names)) (given_by rest))
-      (ap₂ (λ (kinds : Kinds) (met : Held × Step). or_else kinds (step_fault top (place_of names) met.0 met.1)) (is.passes due held) (is.met due (place_of names) held))
-      (ap (λ (met : Held × Step). after_step arguments word (due_at false (place_of names) rows) met.0 met.1) (is.met due (place_of names) held))
-      (moved (so_far news ticks names) (so_far news (ticks ++ word ∷ []) names) (with_tick word) (tick-moves news ticks names word) (given_by rest)
-      ∙ ap (option_map (joined (so_far news ticks names))) (sym (is.behind rest)))
-      (later.free false false rows (Some (codes "tick", word ∷ [])) news (ticks ++ word ∷ []) names (use-tick rows news ticks names word shows))
+  due-plain word is rows news values names shows =
+      let held : Held = held_with rows (Some (name_of which, [])) in
+      let due : Waiting = option (name_of which) in
+      let one = due-met which word (place_of names) rows in
+      let met : word_met arguments [] false due (place_of names) word held ≡ met_due which word rows = is.met due (place_of names) held in
+      goes-on (due_at which false (place_of names) rows) (walk_at false false (place_of names) rows (Some (name_of which, word ∷ []))) word rest _
+      (option_map (joined (so_far news (added which word values) names)) (given_by rest))
+      (ap₂ (λ (kinds : Kinds) (met : Held × Step). or_else kinds (step_fault top (place_of names) met.0 met.1)) (is.passes due held) met ∙ one.0)
+      (ap (λ (met : Held × Step). after_step arguments word (due_at which false (place_of names) rows) met.0 met.1) met ∙ one.1)
+      (moved (so_far news values names) (so_far news (added which word values) names) (with_value which word) (value-moves which news values names word) (given_by rest)
+      ∙ ap (option_map (joined (so_far news values names))) (sym (is.behind (with_value which) rest)))
+      (later.free false false rows (Some (name_of which, word ∷ [])) news (added which word values) names (use-value which rows news values names word shows))
 
   -- `--`: the library tells the fault later
-  due-end : (rows : List Row) (news : ℕ) (ticks names : List Text)
-      → FindsDue (codes "--" ∷ rest) rows news ticks names
-  unfolding walked
-  due-end rows news ticks names = goes-on (due_at false (place_of names) rows) (due_at true (place_of names) rows) (codes "--") rest None None refl refl refl (inl (stays-faulty rows names rest, refl))
+  due-end : (rows : List Row) (news : ℕ) (values : Valued → List Text) (names : List Text) → FindsDue which (codes "--" ∷ rest) rows news values names
+  due-end rows news values names =
+      let ended = due-ended which (place_of names) rows in
+      goes-on (due_at which false (place_of names) rows) (due_at which true (place_of names) rows) (codes "--") rest None None ended.0 ended.1 refl (inl (stays-faulty which rows names rest, refl))
 
-  due-refused : (word : Text) (rows : List Row) (news : ℕ) (ticks names : List Text) → given_behind_tick (word ∷ rest) ≡ None
-      → has_fault (word_fault top [] false (option (codes "tick")) word (held_with rows (Some (codes "tick", [])))) ≡ true
-      → FindsDue (word ∷ rest) rows news ticks names
-  due-refused word rows news ticks names none fails =
-      refused (due_at false (place_of names) rows) word rest _ (ap (λ o. option_and_then asked_by (option_map (joined (so_far news ticks names)) o)) none)
-      (or-first (word_fault top [] false (option (codes "tick")) word (held_with rows (Some (codes "tick", [])))) _ fails)
+  due-refused : (word : Text) (rows : List Row) (news : ℕ) (values : Valued → List Text) (names : List Text) → given_behind (with_value which) (word ∷ rest) ≡ None
+      → has_fault (word_fault top [] false (option (name_of which)) word (held_with rows (Some (name_of which, [])))) ≡ true
+      → FindsDue which (word ∷ rest) rows news values names
+  due-refused word rows news values names none fails =
+      refused (due_at which false (place_of names) rows) word rest _ (ap (λ o. option_and_then asked_by (option_map (joined (so_far news values names)) o)) none)
+      (or-first (word_fault top [] false (option (name_of which)) word (held_with rows (Some (name_of which, [])))) _ fails)
 
-  due-comes : (word : Text) (look : Look) → Looks look word → (rows : List Row) (news : ℕ) (ticks names : List Text) → Shows rows (so_far news ticks names)
-      → FindsDue (word ∷ rest) rows news ticks names
-  due-comes word plain is rows news ticks names shows = due-plain word is rows news ticks names shows
-  due-comes word faulty is rows news ticks names shows = due-refused word rows news ticks names (is.behind rest) (is.fails (option (codes "tick")) rows (Some (codes "tick", [])))
-  due-comes word ends is rows news ticks names shows =
-      subst (λ w. FindsDue (w ∷ rest) rows news ticks names) (sym is)
-      (due-end rows news ticks names)
-  due-comes word fresh is rows news ticks names shows =
-      subst (λ w. FindsDue (w ∷ rest) rows news ticks names) (sym is)
-      (due-refused (codes "--new") rows news ticks names refl refl)
-  due-comes word tick is rows news ticks names shows =
-      subst (λ w. FindsDue (w ∷ rest) rows news ticks names) (sym is)
-      (due-refused (codes "--tick") rows news ticks names refl refl)
-  due-comes word (tick_with text) is rows news ticks names shows =
-      subst (λ w. FindsDue (w ∷ rest) rows news ticks names) (sym is)
-      (due-refused (codes "--tick=" ++ text) rows news ticks names (faulty-behind (codes "--tick=" ++ text) (two-or-more 45 45 (codes "tick=" ++ text)) rest) refl)
+  due-comes : (word : Text) (look : Look) → Looks look word → (rows : List Row) (news : ℕ) (values : Valued → List Text) (names : List Text) → Shows rows news values names
+      → FindsDue which (word ∷ rest) rows news values names
+  due-comes word plain is rows news values names shows = due-plain word is rows news values names shows
+  due-comes word faulty is rows news values names shows =
+      due-refused word rows news values names (is.behind (with_value which) rest) (is.fails (option (name_of which)) rows (Some (name_of which, [])))
+  due-comes word ends is rows news values names shows =
+      subst (λ w. FindsDue which (w ∷ rest) rows news values names) (sym is)
+      (due-end rows news values names)
+  due-comes word fresh is rows news values names shows =
+      subst (λ w. FindsDue which (w ∷ rest) rows news values names) (sym is)
+      (due-refused (codes "--new") rows news values names refl (due-option which rows))
+  due-comes word (alone other) is rows news values names shows =
+      let two : is_dashed (codes "--" ++ name_of other) ≡ true = two-or-more 45 45 (name_of other) in
+      subst (λ w. FindsDue which (w ∷ rest) rows news values names) (sym is)
+      (due-refused (codes "--" ++ name_of other) rows news values names (faulty-behind (codes "--" ++ name_of other) two (with_value which) rest) (due-alone which other rows))
+  due-comes word (valued other text) is rows news values names shows =
+      let long : Text = codes "--" ++ name_of other ++ codes "=" ++ text in
+      let two : is_dashed long ≡ true = two-or-more 45 45 (name_of other ++ codes "=" ++ text) in
+      subst (λ w. FindsDue which (w ∷ rest) rows news values names) (sym is)
+      (due-refused long rows news values names (faulty-behind long two (with_value which) rest) (due-valued which other text rows))
 
 -- ---- all the words
 
-at-end : (ended behind : Bool) (rows : List Row) (pending : Option (Text × List Text)) (news : ℕ) (ticks names : List Text) → Holds rows pending (so_far news ticks names)
-    → FindsAt ended behind [] rows pending news ticks names
+at-end : (ended behind : Bool) (rows : List Row) (pending : Option (Text × List Text)) (news : ℕ) (values : Valued → List Text) (names : List Text) → Holds rows pending news values names
+    → FindsAt ended behind [] rows pending news values names
 unfolding walk_fault
-at-end ended behind rows pending news ticks names holds =
-    subst (λ given. FindsFrom given (walk_at ended behind (place_of names) rows pending) []) (sym (same ended)) (end-of rows pending news ticks names holds)
+at-end ended behind rows pending news values names holds =
+    subst (λ given. FindsFrom given (walk_at ended behind (place_of names) rows pending) []) (sym (same ended)) (end-of rows pending news values names holds)
   where
-    same : (b : Bool) → option_map (joined (so_far news ticks names)) (given_in b []) ≡ Some (so_far news ticks names)
-    same true = ap Some (nothing-more news ticks names)
-    same false = ap Some (nothing-more news ticks names)
+    same : (b : Bool) → option_map (joined (so_far news values names)) (given_in b []) ≡ Some (so_far news values names)
+    same true = ap Some (nothing-more news values names)
+    same false = ap Some (nothing-more news values names)
 
-due-at-end : (rows : List Row) (news : ℕ) (ticks names : List Text) → FindsDue [] rows news ticks names
+due-at-end : (which : Valued) (rows : List Row) (news : ℕ) (values : Valued → List Text) (names : List Text) → FindsDue which [] rows news values names
 unfolding walk_fault
-due-at-end rows news ticks names = inl (refl, refl)
+due-at-end tick_value rows news values names = inl (refl, refl)
+due-at-end make_value rows news values names = inl (refl, refl)
 
 found-all : (words : List Text) → AllByRecursion IsUtf8 words → FindsAll words
-found-all [] texts = record { free = at-end; due = λ rows news ticks names shows. due-at-end rows news ticks names }
+found-all [] texts = record { free = at-end; due = λ which rows news values names shows. due-at-end which rows news values names }
 found-all (word ∷ rest) texts =
     let later = found-all rest texts.1 in
     let look = looks word texts.0 in
-    record { free = by later look.0 look.1; due = due-comes rest later word look.0 look.1 }
+    record { free = by later look.0 look.1; due = λ which. due-comes rest later which word look.0 look.1 }
   where
-    by : FindsAll rest → (look : Look) → Looks look word → (ended behind : Bool) (rows : List Row) (pending : Option (Text × List Text)) (news : ℕ) (ticks names : List Text)
-        → Holds rows pending (so_far news ticks names) → FindsAt ended behind (word ∷ rest) rows pending news ticks names
-    by later look is true behind rows pending news ticks names holds = name-comes rest later true word tt behind rows pending news ticks names holds
-    by later look is false behind rows pending news ticks names holds = word-comes rest later behind word look is rows pending news ticks names holds
+    by : FindsAll rest → (look : Look) → Looks look word → (ended behind : Bool) (rows : List Row) (pending : Option (Text × List Text)) (news : ℕ) (values : Valued → List Text) (names : List Text)
+        → Holds rows pending news values names → FindsAt ended behind (word ∷ rest) rows pending news values names
+    by later look is true behind rows pending news values names holds = name-comes rest later true word tt behind rows pending news values names holds
+    by later look is false behind rows pending news values names holds = word-comes rest later behind word look is rows pending news values names holds
 
 -- no word is the name of a subcommand
 not-entered : (stop : Option (Text × List Text)) → (entered_fault (built hac) stop ≡ []) × (is_some (entered (built hac) stop) ≡ false)
 not-entered None = (refl, refl)
 not-entered (Some stop) = (refl, refl)
 
-nothing-before : (given : Option Parsed) → option_map (joined (so_far 0 [] [])) given ≡ given
+-- nothing was given yet
+abbrev no_values : Valued → List Text
+no_values which = []
+
+nothing-before : (given : Option Parsed) → option_map (joined (so_far 0 no_values [])) given ≡ given
 nothing-before None = refl
-nothing-before (Some given) = ap Some (same-given _ _ _ _ _ _ (omega arith) refl refl)
+nothing-before (Some given) = ap Some (same-given _ _ _ _ _ _ _ _ (omega arith) refl refl refl)
 
 -- the library finds what the words give
 pub words-found : (words : List Text) → AllByRecursion IsUtf8 words → Finds (given_by words) (fault_of hac words) (matches_of hac words)
 words-found words texts =
     let no_entry = not-entered (walk arguments [] nothing_held words).stopped in
-    let shows : Shows [] (so_far 0 [] []) = record { fresh = false; tick = None; news_are = refl; ticks_are = refl; new_row = refl; tick_row = refl; store_row = refl; spaces_row = refl; filled = refl } in
+    let shows : Shows [] 0 no_values [] = record { fresh = false; told = λ which. None; news_are = refl; told_are = λ which. refl; new_row = refl; told_row = λ which. refl; store_row = refl; spaces_row = refl; filled = refl } in
     subst (λ kinds. Finds (given_by words) kinds (matches_of hac words)) (sym (ap₂ (λ below entered. level_fault top [] nothing_held words entered below) no_entry.0 no_entry.1))
-    (subst (λ given. FindsFrom given (walk_at false false 1 [] None) words) (nothing-before (given_by words)) ((found-all words texts).free false false [] None 0 [] [] (inl (refl, shows))))
+    (subst (λ given. FindsFrom given (walk_at false false 1 [] None) words) (nothing-before (given_by words)) ((found-all words texts).free false false [] None 0 no_values [] (inl (refl, shows))))

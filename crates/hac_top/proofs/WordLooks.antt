@@ -1,11 +1,11 @@
 -- What each word of the program is, to the definition and to the library.
-use Rattle.std.proofs.Common.{◌≡◌, ◌∙◌, ◌&&◌, ◌||◌, ℕ, suc, ◌+◌, Bool, true, false, true≢false, List, [], ◌∷◌, ◌++◌, take, drop, length, Option, None, refl, sym, ap, ap₂, subst, take-append-drop, arith, eqb-true, codes, rules, le-leb}
+use Rattle.std.proofs.Common.{◌≡◌, ◌∙◌, ◌&&◌, ◌||◌, ℕ, suc, ◌+◌, Bool, true, false, true≢false, List, [], ◌∷◌, ◌++◌, append_assoc, take, drop, length, Option, None, refl, sym, ap, ap₂, subst, take-append-drop, arith, eqb-true, codes, rules, le-leb}
 use Rattle.std.specs.Prelude.{◌==◌, not, option_map, slice_get}
 use Rattle.std.specs.List.{after_first, before_first, position_or_len}
 use Rattle.std.specs.Str.{IsUtf8, bytes_eq, chars, encode_utf8_all}
 use Rattle.std.proofs.lemmas.Slice.Eq.{bytes_eq-Decides}
 use Rattle.std.proofs.lemmas.Str.{IsUtf8-past_char, encode_ascii, encodes-chars}
-use Rattle.hac_model.specs.Script.CommandLine.{begins_tick, ends_options, given_behind_tick, given_by, is_dashed, is_new, is_tick_word, with_name, with_tick}
+use Rattle.hac_model.specs.Script.CommandLine.{Parsed, begins_make, begins_tick, ends_options, given_behind, given_by, is_dashed, is_make_word, is_new, is_tick_word, with_make, with_name, with_tick}
 use Rattle.clap.specs.Lexer.{has_byte}
 use Rattle.clap.specs.Kinds.{Kinds, or_else}
 use Rattle.clap.specs.Faults.{bundle_step_fault, flags_fault, word_fault}
@@ -29,8 +29,22 @@ pub or-first : (a b : Kinds) → has_fault a ≡ true → has_fault (or_else a b
 or-first [] b fails = absurd (true≢false (sym fails))
 or-first (kind ∷ kinds) b fails = fails
 
-pub all-pass : (a b c d : Kinds) → a ≡ [] → b ≡ [] → c ≡ [] → d ≡ [] → or_else a (or_else b (or_else c (or_else d []))) ≡ []
-all-pass a b c d first second third fourth = rw (first, second, third, fourth) refl
+pub all-pass : (a b c d e : Kinds) → a ≡ [] → b ≡ [] → c ≡ [] → d ≡ [] → e ≡ [] → or_else a (or_else b (or_else c (or_else d (or_else e [])))) ≡ []
+all-pass a b c d e first second third fourth fifth = rw (first, second, third, fourth, fifth) refl
+
+-- an option with a value
+pub data Valued : Type 0 where
+  tick_value : Valued
+  make_value : Valued
+
+-- its name, and what its value gives
+abbrev pub name_of : Valued → Text
+name_of tick_value = codes "tick"
+name_of make_value = codes "make"
+
+abbrev pub with_value : Valued → Text → Parsed → Parsed
+with_value tick_value = with_tick
+with_value make_value = with_make
 
 -- what the library holds between two words
 abbrev pub held_with : List Row → Option (Text × List Text) → Held
@@ -41,14 +55,14 @@ held_with rows pending = record { rows = rows; pending = pending; skip = 0 }
 -- a name, or a value
 pub record IsPlain (word : Text) : Type 0 where
   pub given : (words : List Text) → given_by (word ∷ words) ≡ option_map (with_name word) (given_by words)
-  pub behind : (words : List Text) → given_behind_tick (word ∷ words) ≡ option_map (with_tick word) (given_by words)
+  pub behind : (step : Text → Parsed → Parsed) (words : List Text) → given_behind step (word ∷ words) ≡ option_map (step word) (given_by words)
   pub met : (waiting : Waiting) (place : ℕ) (held : Held) → word_met arguments [] false waiting place word held ≡ plain_word arguments waiting word held
   pub passes : (waiting : Waiting) (held : Held) → word_fault top [] false waiting word held ≡ []
 
 -- no option that the program has
 pub record IsFaulty (word : Text) : Type 0 where
   pub given : (words : List Text) → given_by (word ∷ words) ≡ None
-  pub behind : (words : List Text) → given_behind_tick (word ∷ words) ≡ None
+  pub behind : (step : Text → Parsed → Parsed) (words : List Text) → given_behind step (word ∷ words) ≡ None
   pub fails : (waiting : Waiting) (rows : List Row) (pending : Option (Text × List Text)) → has_fault (word_fault top [] false waiting word (held_with rows pending)) ≡ true
 
 -- how a word looks
@@ -56,16 +70,16 @@ pub data Look : Type 0 where
   plain : Look
   ends : Look
   fresh : Look
-  tick : Look
-  tick_with : Text → Look
+  alone : Valued → Look
+  valued : Valued → Text → Look
   faulty : Look
 
 abbrev pub Looks : Look → Text → Type 0
 Looks plain word = IsPlain word
 Looks ends word = word ≡ codes "--"
 Looks fresh word = word ≡ codes "--new"
-Looks tick word = word ≡ codes "--tick"
-Looks (tick_with value) word = word ≡ codes "--tick=" ++ value
+Looks (alone which) word = word ≡ codes "--" ++ name_of which
+Looks (valued which text) word = word ≡ codes "--" ++ name_of which ++ codes "=" ++ text
 Looks faulty word = IsFaulty word
 
 -- ---- lists
@@ -119,9 +133,9 @@ never-both false same = true≢false (sym same)
 differ : (test : Text → Bool) (b : Bool) (xs ys : Text) → test xs ≡ b → test ys ≡ not b → bytes_eq xs ys ≡ false
 differ test b xs ys here there = not-true _ (λ same. never-both b (sym here ∙ ap test (same-bytes xs ys same) ∙ there))
 
-differ-front : (test : Text → Bool) (b : Bool) (xs : Text) → test xs ≡ b → ((value : Text) → test (codes "tick=" ++ value) ≡ not b) → bytes_eq (take 5 xs) (codes "tick=") ≡ false
-differ-front test b xs here there =
-    not-true _ (λ same. never-both b (sym here ∙ ap test (sym (take-append-drop 5 xs) ∙ ap (λ front. front ++ drop 5 xs) (same-bytes (take 5 xs) (codes "tick=") same)) ∙ there (drop 5 xs)))
+differ-front : (test : Text → Bool) (b : Bool) (front xs : Text) → test xs ≡ b → ((value : Text) → test (front ++ value) ≡ not b) → bytes_eq (take 5 xs) front ≡ false
+differ-front test b front xs here there =
+    not-true _ (λ same. never-both b (sym here ∙ ap test (sym (take-append-drop 5 xs) ∙ ap (λ t. t ++ drop 5 xs) (same-bytes (take 5 xs) front same)) ∙ there (drop 5 xs)))
 
 -- ---- what a word is
 
@@ -129,19 +143,26 @@ differ-front test b xs here there =
 pub two-or-more : (x y : ℕ) (ys : Text) → is_dashed (x ∷ y ∷ ys) ≡ ((x == 45) && true)
 two-or-more x y ys = ap (λ b. b && ((x == 45) && true)) (le-leb 2 (length (x ∷ y ∷ ys)) (omega arith))
 
-faulty-given : (word : Text) → ends_options word ≡ false → is_new word ≡ false → is_tick_word word ≡ false → begins_tick word ≡ false → is_dashed word ≡ true
-    → (words : List Text) → given_by (word ∷ words) ≡ None
-faulty-given word no_end no_new no_tick no_value dashed words = rw (no_end, no_new, no_tick, no_value, dashed) refl
+-- it is none of the words that the program knows
+record IsNone (word : Text) : Type 0 where
+  no_end : ends_options word ≡ false
+  no_new : is_new word ≡ false
+  no_tick : is_tick_word word ≡ false
+  no_tick_value : begins_tick word ≡ false
+  no_make : is_make_word word ≡ false
+  no_make_value : begins_make word ≡ false
 
-pub faulty-behind : (word : Text) → is_dashed word ≡ true → (words : List Text) → given_behind_tick (word ∷ words) ≡ None
-faulty-behind word dashed words = rw dashed refl
+faulty-given : (word : Text) → IsNone word → is_dashed word ≡ true → (words : List Text) → given_by (word ∷ words) ≡ None
+faulty-given word none dashed words = rw (none.no_end, none.no_new, none.no_tick, none.no_tick_value, none.no_make, none.no_make_value, dashed) refl
 
-plain-given : (word : Text) → ends_options word ≡ false → is_new word ≡ false → is_tick_word word ≡ false → begins_tick word ≡ false → is_dashed word ≡ false
-    → (words : List Text) → given_by (word ∷ words) ≡ option_map (with_name word) (given_by words)
-plain-given word no_end no_new no_tick no_value bare words = rw (no_end, no_new, no_tick, no_value, bare) refl
+pub faulty-behind : (word : Text) → is_dashed word ≡ true → (step : Text → Parsed → Parsed) (words : List Text) → given_behind step (word ∷ words) ≡ None
+faulty-behind word dashed step words = rw dashed refl
 
-plain-behind : (word : Text) → is_dashed word ≡ false → (words : List Text) → given_behind_tick (word ∷ words) ≡ option_map (with_tick word) (given_by words)
-plain-behind word bare words = rw bare refl
+plain-given : (word : Text) → IsNone word → is_dashed word ≡ false → (words : List Text) → given_by (word ∷ words) ≡ option_map (with_name word) (given_by words)
+plain-given word none bare words = rw (none.no_end, none.no_new, none.no_tick, none.no_tick_value, none.no_make, none.no_make_value, bare) refl
+
+plain-behind : (word : Text) → is_dashed word ≡ false → (step : Text → Parsed → Parsed) (words : List Text) → given_behind step (word ∷ words) ≡ option_map (step word) (given_by words)
+plain-behind word bare step words = rw bare refl
 
 has-first : (x : ℕ) (xs : Text) → IsUtf8 (x ∷ xs) → (c : ℕ) × (cs : Text) × (chars (x ∷ xs) ≡ c ∷ cs)
 has-first x xs text = by (chars (x ∷ xs)) refl
@@ -157,7 +178,7 @@ has-first x xs text = by (chars (x ∷ xs)) refl
 short-is : (x : ℕ) (xs : Text) → (x == 45) ≡ false → IsUtf8 (x ∷ xs) → IsFaulty (45 ∷ x ∷ xs)
 unfolding flags_fault
 short-is x xs other text = record {
-  given = faulty-given (45 ∷ x ∷ xs) (rw other refl) (rw other refl) (rw other refl) (rw other refl) (two-or-more 45 x xs);
+  given = faulty-given (45 ∷ x ∷ xs) (record { no_end = rw other refl; no_new = rw other refl; no_tick = rw other refl; no_tick_value = rw other refl; no_make = rw other refl; no_make_value = rw other refl }) (two-or-more 45 x xs);
   behind = faulty-behind (45 ∷ x ∷ xs) (two-or-more 45 x xs);
   fails = fails;
 }
@@ -181,25 +202,37 @@ module _ (x : ℕ) (xs : Text) where
   abbrev rest : Text
   rest = x ∷ xs
 
-  -- neither option
-  unknown-is : is_named (codes "new") rest ≡ false → is_named (codes "tick") rest ≡ false → IsFaulty (45 ∷ 45 ∷ x ∷ xs)
-  unknown-is no_new no_tick = record {
-    given = faulty-given (45 ∷ 45 ∷ x ∷ xs) refl (differ (is_named (codes "new")) false rest (codes "new") no_new refl) (differ (is_named (codes "tick")) false rest (codes "tick") no_tick refl)
-        (differ-front (is_named (codes "tick")) false rest no_tick (λ value. refl)) (two-or-more 45 45 (x ∷ xs));
+  -- no option
+  unknown-is : is_named (codes "new") rest ≡ false → is_named (codes "tick") rest ≡ false → is_named (codes "make") rest ≡ false → IsFaulty (45 ∷ 45 ∷ x ∷ xs)
+  unknown-is no_new no_tick no_make = record {
+    given = faulty-given (45 ∷ 45 ∷ x ∷ xs) (record {
+      no_end = refl;
+      no_new = differ (is_named (codes "new")) false rest (codes "new") no_new refl;
+      no_tick = differ (is_named (codes "tick")) false rest (codes "tick") no_tick refl;
+      no_tick_value = differ-front (is_named (codes "tick")) false (codes "tick=") rest no_tick (λ value. refl);
+      no_make = differ (is_named (codes "make")) false rest (codes "make") no_make refl;
+      no_make_value = differ-front (is_named (codes "make")) false (codes "make=") rest no_make (λ value. refl);
+    }) (two-or-more 45 45 (x ∷ xs));
     behind = faulty-behind (45 ∷ 45 ∷ x ∷ xs) (two-or-more 45 45 (x ∷ xs));
     fails = fails;
   }
     where
       fails : (waiting : Waiting) (rows : List Row) (pending : Option (Text × List Text)) → has_fault (word_fault top [] false waiting (45 ∷ 45 ∷ x ∷ xs) (held_with rows pending)) ≡ true
-      fails idle rows pending = rw (no_new, no_tick) refl
-      fails (option id) rows pending = rw (no_new, no_tick) refl
-      fails positional rows pending = rw (no_new, no_tick) refl
+      fails idle rows pending = rw (no_new, no_tick, no_make) refl
+      fails (option id) rows pending = rw (no_new, no_tick, no_make) refl
+      fails positional rows pending = rw (no_new, no_tick, no_make) refl
 
   -- `--new` with a value
   valued-is : is_named (codes "new") rest ≡ true → has_byte 61 rest ≡ true → IsFaulty (45 ∷ 45 ∷ x ∷ xs)
   valued-is new has = record {
-    given = faulty-given (45 ∷ 45 ∷ x ∷ xs) refl (differ (has_byte 61) true rest (codes "new") has refl) (differ (has_byte 61) true rest (codes "tick") has refl)
-        (differ-front (is_named (codes "new")) true rest new (λ value. refl)) (two-or-more 45 45 (x ∷ xs));
+    given = faulty-given (45 ∷ 45 ∷ x ∷ xs) (record {
+      no_end = refl;
+      no_new = differ (has_byte 61) true rest (codes "new") has refl;
+      no_tick = differ (has_byte 61) true rest (codes "tick") has refl;
+      no_tick_value = differ-front (is_named (codes "new")) true (codes "tick=") rest new (λ value. refl);
+      no_make = differ (has_byte 61) true rest (codes "make") has refl;
+      no_make_value = differ-front (is_named (codes "new")) true (codes "make=") rest new (λ value. refl);
+    }) (two-or-more 45 45 (x ∷ xs));
     behind = faulty-behind (45 ∷ 45 ∷ x ∷ xs) (two-or-more 45 45 (x ∷ xs));
     fails = fails;
   }
@@ -212,20 +245,27 @@ module _ (x : ℕ) (xs : Text) where
   whole-name : (name : Text) → is_named name rest ≡ true → has_byte 61 rest ≡ false → 45 ∷ 45 ∷ x ∷ xs ≡ 45 ∷ 45 ∷ name
   whole-name name is has = ap (λ t. 45 ∷ 45 ∷ t) (sym (all-before rest has) ∙ sym (same-bytes name (before_first is_equals rest) is))
 
-  with-value : is_named (codes "tick") rest ≡ true → has_byte 61 rest ≡ true → 45 ∷ 45 ∷ x ∷ xs ≡ codes "--tick=" ++ after_first is_equals rest
-  with-value is has =
-      ap (λ t. 45 ∷ 45 ∷ t) (cut rest has ∙ ap (λ t. t ++ 61 ∷ after_first is_equals rest) (sym (same-bytes (codes "tick") (before_first is_equals rest) is)))
+  with-text : (name : Text) → is_named name rest ≡ true → has_byte 61 rest ≡ true → 45 ∷ 45 ∷ x ∷ xs ≡ 45 ∷ 45 ∷ (name ++ 61 ∷ after_first is_equals rest)
+  with-text name is has =
+      ap (λ t. 45 ∷ 45 ∷ t) (cut rest has ∙ ap (λ t. t ++ 61 ∷ after_first is_equals rest) (sym (same-bytes name (before_first is_equals rest) is)))
+
+  valued-look : (which : Valued) → is_named (name_of which) rest ≡ true → (look : Look) × Looks look (45 ∷ 45 ∷ x ∷ xs)
+  valued-look which is = by (has_byte 61 rest) refl
+    where
+      by : (has_text : Bool) → has_byte 61 rest ≡ has_text → (look : Look) × Looks look (45 ∷ 45 ∷ x ∷ xs)
+      by false has = (alone which, whole-name (name_of which) is has)
+      by true has = (valued which (after_first is_equals rest), with-text (name_of which) is has ∙ ap (λ t. 45 ∷ 45 ∷ t) (sym (append_assoc (name_of which) (codes "=") (after_first is_equals rest))))
 
   long-is : (look : Look) × Looks look (45 ∷ 45 ∷ x ∷ xs)
-  long-is = by (is_named (codes "new") rest) refl (is_named (codes "tick") rest) refl (has_byte 61 rest) refl
+  long-is = by (is_named (codes "new") rest) refl (is_named (codes "tick") rest) refl (is_named (codes "make") rest) refl (has_byte 61 rest) refl
     where
-      by : (new : Bool) → is_named (codes "new") rest ≡ new → (ticks : Bool) → is_named (codes "tick") rest ≡ ticks → (valued : Bool) → has_byte 61 rest ≡ valued
-          → (look : Look) × Looks look (45 ∷ 45 ∷ x ∷ xs)
-      by false no_new false no_tick valued has = (faulty, unknown-is no_new no_tick)
-      by false no_new true is false has = (tick, whole-name (codes "tick") is has)
-      by false no_new true is true has = (tick_with (after_first is_equals rest), with-value is has)
-      by true is ticks other false has = (fresh, whole-name (codes "new") is has)
-      by true is ticks other true has = (faulty, valued-is is has)
+      by : (new : Bool) → is_named (codes "new") rest ≡ new → (ticks : Bool) → is_named (codes "tick") rest ≡ ticks → (makes : Bool) → is_named (codes "make") rest ≡ makes
+          → (has_text : Bool) → has_byte 61 rest ≡ has_text → (look : Look) × Looks look (45 ∷ 45 ∷ x ∷ xs)
+      by false no_new false no_tick false no_make has_text has = (faulty, unknown-is no_new no_tick no_make)
+      by false no_new false no_tick true is has_text has = valued-look make_value is
+      by false no_new true is makes other has_text has = valued-look tick_value is
+      by true is ticks other makes another false has = (fresh, whole-name (codes "new") is has)
+      by true is ticks other makes another true has = (faulty, valued-is is has)
 
 hyphens-are : (xs : Text) → (look : Look) × Looks look (45 ∷ 45 ∷ xs)
 hyphens-are [] = (ends, refl)
@@ -233,7 +273,7 @@ hyphens-are (x ∷ xs) = long-is x xs
 
 -- an empty word, and a hyphen alone
 empty-is : IsPlain []
-empty-is = record { given = λ words. refl; behind = λ words. refl; met = met; passes = passes }
+empty-is = record { given = λ words. refl; behind = λ step words. refl; met = met; passes = passes }
   where
     met : (waiting : Waiting) (place : ℕ) (held : Held) → word_met arguments [] false waiting place [] held ≡ plain_word arguments waiting [] held
     met idle place held = refl
@@ -246,7 +286,7 @@ empty-is = record { given = λ words. refl; behind = λ words. refl; met = met; 
     passes positional held = refl
 
 lone-is : IsPlain (45 ∷ [])
-lone-is = record { given = λ words. refl; behind = λ words. refl; met = met; passes = passes }
+lone-is = record { given = λ words. refl; behind = λ step words. refl; met = met; passes = passes }
   where
     met : (waiting : Waiting) (place : ℕ) (held : Held) → word_met arguments [] false waiting place (45 ∷ []) held ≡ plain_word arguments waiting (45 ∷ []) held
     met idle place held = refl
@@ -261,7 +301,7 @@ lone-is = record { given = λ words. refl; behind = λ words. refl; met = met; p
 -- a word that begins with anything else
 plain-is : (x : ℕ) (xs : Text) → (x == 45) ≡ false → IsPlain (x ∷ xs)
 plain-is x xs other = record {
-  given = plain-given (x ∷ xs) (rw other refl) (rw other refl) (rw other refl) (rw other refl) (bare xs);
+  given = plain-given (x ∷ xs) (record { no_end = rw other refl; no_new = rw other refl; no_tick = rw other refl; no_tick_value = rw other refl; no_make = rw other refl; no_make_value = rw other refl }) (bare xs);
   behind = plain-behind (x ∷ xs) (bare xs);
   met = met;
   passes = passes;

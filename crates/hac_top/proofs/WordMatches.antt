@@ -5,7 +5,7 @@ use Rattle.std.specs.Borrow.{Bor}
 use Rattle.std.specs.List.{AllByRecursion}
 use Rattle.std.specs.Str.{IsUtf8}
 use Rattle.std.proofs.lemmas.Str.{IsUtf8-string_bytes}
-use Rattle.hac_model.specs.Script.CommandLine.{Parsed, Options, Space, asked_by, fresh_of, given_by, options, spaces_of, store_of, tick_of}
+use Rattle.hac_model.specs.Script.CommandLine.{Parsed, Options, Space, asked_by, fresh_of, given_by, make_of, options, spaces_of, store_of, tick_of}
 use Rattle.clap.specs.Values.{bool_text}
 use Rattle.clap.specs.Kinds.{Kinds}
 use Rattle.clap.specs.Faults.{fault_of}
@@ -18,7 +18,7 @@ use Rattle.clap.proofs.WalkLemmas.{first_value-rows, one_text-rows, raw_values-r
 use Rattle.hac_top.specs.Words.{fault_by, hac, values_of}
 use Rattle.hac_top.specs.declared.words.WordsFault.{WordsFault}
 use Rattle.hac_top.specs.declared.words.WordsFault.TheVariants.{Memory, Usage}
-use Rattle.hac_top.proofs.WordLooks.{has_fault}
+use Rattle.hac_top.proofs.WordLooks.{Valued, has_fault, make_value, name_of, tick_value}
 use Rattle.hac_top.proofs.WordLemmas.{Finds, so_far, texts_of, words-found}
 
 -- each word is text
@@ -43,13 +43,13 @@ names-got m got given none gets empty is = ap (λ (texts : Bor (List (Bor Text))
 -- what the words give is in the matches
 pub record IsFound (given : Option Parsed) (m : ArgMatches) : Type 0 where
   pub fresh : Bool
-  pub tick : Option Text
+  pub told : Valued → Option Text
   pub store : Text
   pub spaces : List Text
-  pub given_is : given ≡ Some (so_far (if fresh then 1 else 0) (option_to_list tick) (store ∷ spaces))
+  pub given_is : given ≡ Some (so_far (if fresh then 1 else 0) (λ which. option_to_list (told which)) (store ∷ spaces))
   pub filled : nat_le 1 (length store) ≡ true
   pub new_is : one_text (found_of m) (codes "new") ≡ Some (bool_text fresh)
-  pub tick_is : first_value (found_of m) (codes "tick") ≡ tick
+  pub told_is : (which : Valued) → first_value (found_of m) (name_of which) ≡ told which
   pub store_is : first_value (found_of m) (codes "store") ≡ Some store
   pub spaces_are : given_values m (codes "spaces") ≡ spaces
 
@@ -57,13 +57,13 @@ found-in : (given : Option Parsed) (kinds : Kinds) (rows : List Row) (m : ArgMat
 found-in given kinds rows m (inl (fails, none)) passes same = absurd (true≢false (sym fails ∙ ap has_fault passes))
 found-in given kinds rows m (inr (free, found)) passes same = record {
   fresh = found.fresh;
-  tick = found.tick;
+  told = found.told;
   store = found.store;
   spaces = found.spaces;
   given_is = found.given_is;
   filled = found.filled;
   new_is = one_text-rows (found_of m) (codes "new") ∙ ap (one_of (codes "new")) same ∙ found.new_is;
-  tick_is = first_value-rows (found_of m) (codes "tick") ∙ ap (first_of (codes "tick")) same ∙ found.tick_is;
+  told_is = λ which. first_value-rows (found_of m) (name_of which) ∙ ap (first_of (name_of which)) same ∙ found.told_is which;
   store_is = first_value-rows (found_of m) (codes "store") ∙ ap (first_of (codes "store")) same ∙ found.store_is;
   spaces_are = ap (λ values. unwrap_or values []) (raw_values-rows (found_of m) (codes "spaces")) ∙ ap (texts_of (codes "spaces")) same ∙ found.spaces_are;
 }
@@ -96,26 +96,28 @@ none-by-error words app e is has usage =
     none-by (given_by texts) (fault_of hac texts) (matches_of hac texts) e (words-found texts (all-text words))
     (subst (λ a. is_simple_and_free a ≡ true → HasKind (fault_of a texts) e) is has refl) usage
 
--- what they ask for, by the number that `--tick` gives and by the spaces
-abbrev asked_with : Bool → Text → Option ℕ → Option (List Space) → Option Options
-asked_with fresh store tick spaces =
-    option_and_then (λ tick. option_map (λ spaces. record { fresh = fresh; tick = tick; store = store; spaces = spaces }) spaces) tick
+-- what they ask for, by the numbers that `--tick` and `--make` give and by the spaces
+abbrev asked_with : Bool → Text → Option ℕ → Option (Option ℕ) → Option (List Space) → Option Options
+asked_with fresh store tick make spaces =
+    option_and_then (λ tick. option_and_then (λ make. option_map (λ spaces. record { fresh = fresh; tick = tick; make = make; store = store; spaces = spaces }) spaces) make) tick
 
-asked-is : (fresh : Bool) (tick : Option Text) (store : Text) (spaces : List Text) → nat_le 1 (length store) ≡ true
-    → asked_by (so_far (if fresh then 1 else 0) (option_to_list tick) (store ∷ spaces)) ≡ asked_with fresh store (tick_of (option_to_list tick)) (spaces_of spaces)
-asked-is fresh tick store spaces filled = by fresh (tick_of (option_to_list tick))
+asked-is : (fresh : Bool) (values : Valued → List Text) (store : Text) (spaces : List Text) → nat_le 1 (length store) ≡ true
+    → asked_by (so_far (if fresh then 1 else 0) values (store ∷ spaces)) ≡ asked_with fresh store (tick_of (values tick_value)) (make_of (values make_value)) (spaces_of spaces)
+asked-is fresh values store spaces filled = by fresh (tick_of (values tick_value)) (make_of (values make_value))
   where
-    rest_of : Bool → ℕ → Option Options
-    rest_of fresh tick =
-        option_and_then (λ store. option_map (λ spaces. record { fresh = fresh; tick = tick; store = store; spaces = spaces }) (spaces_of spaces)) (store_of (store ∷ spaces))
+    rest_of : Bool → ℕ → Option ℕ → Option Options
+    rest_of fresh tick make =
+        option_and_then (λ store. option_map (λ spaces. record { fresh = fresh; tick = tick; make = make; store = store; spaces = spaces }) (spaces_of spaces)) (store_of (store ∷ spaces))
 
-    number : (fresh : Bool) (tick : Option ℕ) → option_and_then (rest_of fresh) tick ≡ asked_with fresh store tick (spaces_of spaces)
-    number fresh None = refl
-    number fresh (Some tick) = rw filled refl
+    numbers : (fresh : Bool) (tick : Option ℕ) (make : Option (Option ℕ)) → option_and_then (λ tick. option_and_then (rest_of fresh tick) make) tick ≡ asked_with fresh store tick make (spaces_of spaces)
+    numbers fresh None make = refl
+    numbers fresh (Some tick) None = refl
+    numbers fresh (Some tick) (Some make) = rw filled refl
 
-    by : (fresh : Bool) (tick : Option ℕ) → option_and_then (λ fresh. option_and_then (rest_of fresh) tick) (fresh_of (if fresh then 1 else 0)) ≡ asked_with fresh store tick (spaces_of spaces)
-    by true tick = number true tick
-    by false tick = number false tick
+    by : (fresh : Bool) (tick : Option ℕ) (make : Option (Option ℕ))
+        → option_and_then (λ fresh. option_and_then (λ tick. option_and_then (rest_of fresh tick) make) tick) (fresh_of (if fresh then 1 else 0)) ≡ asked_with fresh store tick make (spaces_of spaces)
+    by true tick make = numbers true tick make
+    by false tick make = numbers false tick make
 
 values-are : (got : Option (Bor Text)) → values_of got ≡ option_to_list (option_map (λ text. text.now) got)
 values-are None = refl
@@ -130,21 +132,43 @@ module _ {Z : Type 0} (words : List (String Z)) (m : ArgMatches) (has : IsFound 
   abbrev named : Option (List Space)
   named = spaces_of (given_values m (codes "spaces"))
 
-  asked-with : (got : Option (Bor Text)) → option_map (λ text. text.now) got ≡ first_value (found_of m) (codes "tick")
-      → options (map string_bytes words) ≡ asked_with has.fresh has.store (tick_of (values_of got)) named
+  abbrev Gets : Text → Option (Bor Text) → Type 0
+  Gets name got = option_map (λ text. text.now) got ≡ first_value (found_of m) name
+
+  abbrev tick_asked : Option ℕ
+  tick_asked = tick_of (option_to_list (has.told tick_value))
+
+  abbrev make_asked : Option (Option ℕ)
+  make_asked = make_of (option_to_list (has.told make_value))
+
+  asked-told : options (map string_bytes words) ≡ asked_with has.fresh has.store tick_asked make_asked named
   unfolding options
-  asked-with got gets =
-      ap (option_and_then asked_by) has.given_is ∙ asked-is has.fresh has.tick has.store has.spaces has.filled
-      ∙ ap₂ (λ values spaces. asked_with has.fresh has.store (tick_of values) (spaces_of spaces)) (sym (values-are got ∙ ap option_to_list (gets ∙ has.tick_is))) (sym has.spaces_are)
+  asked-told =
+      ap (option_and_then asked_by) has.given_is ∙ asked-is has.fresh (λ which. option_to_list (has.told which)) has.store has.spaces has.filled
+      ∙ ap (λ spaces. asked_with has.fresh has.store tick_asked make_asked (spaces_of spaces)) (sym has.spaces_are)
+
+  got-told : (which : Valued) (got : Option (Bor Text)) → Gets (name_of which) got → values_of got ≡ option_to_list (has.told which)
+  got-told which got gets = values-are got ∙ ap option_to_list (gets ∙ has.told_is which)
+
+  tick-got : (got : Option (Bor Text)) → Gets (codes "tick") got → tick_asked ≡ tick_of (values_of got)
+  tick-got got gets = ap tick_of (sym (got-told tick_value got gets))
+
+  make-got : (got : Option (Bor Text)) → Gets (codes "make") got → make_asked ≡ make_of (values_of got)
+  make-got got gets = ap make_of (sym (got-told make_value got gets))
 
   -- the value of `--tick` is no number that it takes
-  pub none-by-tick : (got : Option (Bor Text)) → option_map (λ text. text.now) got ≡ first_value (found_of m) (codes "tick") → tick_of (values_of got) ≡ None → options (map string_bytes words) ≡ None
-  none-by-tick got gets none = asked-with got gets ∙ ap (λ tick. asked_with has.fresh has.store tick named) none
+  pub none-by-tick : (got : Option (Bor Text)) → Gets (codes "tick") got → tick_of (values_of got) ≡ None → options (map string_bytes words) ≡ None
+  none-by-tick got gets none = asked-told ∙ ap (λ tick. asked_with has.fresh has.store tick make_asked named) (tick-got got gets ∙ none)
+
+  -- nor is that of `--make`
+  pub none-by-make : (got : Option (Bor Text)) → Gets (codes "make") got → make_of (values_of got) ≡ None → options (map string_bytes words) ≡ None
+  none-by-make got gets none =
+      asked-told ∙ ap (λ make. asked_with has.fresh has.store tick_asked make named) (make-got got gets ∙ none) ∙ none-behind tick_asked _ (λ tick. refl)
 
   -- some name behind the store's is that of no space, or they may not stand together
-  pub none-by-spaces : (got : Option (Bor Text)) → option_map (λ text. text.now) got ≡ first_value (found_of m) (codes "tick") → named ≡ None → options (map string_bytes words) ≡ None
-  none-by-spaces got gets none =
-      asked-with got gets ∙ ap (asked_with has.fresh has.store (tick_of (values_of got))) none ∙ none-behind (tick_of (values_of got)) _ (λ tick. refl)
+  pub none-by-spaces : named ≡ None → options (map string_bytes words) ≡ None
+  none-by-spaces none =
+      asked-told ∙ ap (asked_with has.fresh has.store tick_asked make_asked) none ∙ none-behind tick_asked _ (λ tick. none-behind make_asked _ (λ make. refl))
 
   module _ (got : Option (Bor Text)) (gets : option_map (λ text. text.now) got ≡ first_value (found_of m) (codes "store")) where
     pub store-got : IsSome got
@@ -154,14 +178,15 @@ module _ {Z : Type 0} (words : List (String Z)) (m : ArgMatches) (has : IsFound 
         by None same = absurd (true≢false (sym (ap is_some same)))
         by (Some text) same = refl
 
-    pub got-is : (number : ℕ) (given : Option (Bor Text)) (text : Bor Text) (flag : Bool) (spaces : List Space)
-        → option_map (λ text. text.now) given ≡ first_value (found_of m) (codes "tick") → Some number ≡ tick_of (values_of given) → named ≡ Some spaces
+    pub got-is : (tick : ℕ) (make : Option ℕ) (tick_given make_given : Option (Bor Text)) (text : Bor Text) (flag : Bool) (spaces : List Space)
+        → Gets (codes "tick") tick_given → Some tick ≡ tick_of (values_of tick_given) → Gets (codes "make") make_given → Some make ≡ make_of (values_of make_given) → named ≡ Some spaces
         → got ≡ Some text → (one_text (found_of m) (codes "new") ≡ Some (codes "true") → flag ≡ true) → (one_text (found_of m) (codes "new") ≡ Some (codes "false") → flag ≡ false)
-        → options (map string_bytes words) ≡ Some (record { fresh = flag; tick = number; store = text.now; spaces = spaces })
-    got-is number given text flag spaces gives number_is spaces_are one on off =
+        → options (map string_bytes words) ≡ Some (record { fresh = flag; tick = tick; make = make; store = text.now; spaces = spaces })
+    got-is tick make tick_given make_given text flag spaces tick_gets tick_is make_gets make_is spaces_are one on off =
         let store_is : text.now ≡ has.store = ap (λ (o : Option Text). unwrap_or o []) (sym (ap (option_map (λ (t : Bor Text). t.now)) one) ∙ gets ∙ has.store_is) in
-        asked-with given gives ∙ ap₂ (asked_with has.fresh has.store) (sym number_is) spaces_are
-        ∙ ap₂ (λ (f : Bool) (t : Text). Some (record { fresh = f; tick = number; store = t; spaces = spaces })) (sym (flag-is has.fresh has.new_is)) (sym store_is)
+        asked-told ∙ ap₂ (λ t m. asked_with has.fresh has.store t m named) (tick-got tick_given tick_gets ∙ sym tick_is) (make-got make_given make_gets ∙ sym make_is)
+        ∙ ap (asked_with has.fresh has.store (Some tick) (Some make)) spaces_are
+        ∙ ap₂ (λ (f : Bool) (t : Text). Some (record { fresh = f; tick = tick; make = make; store = t; spaces = spaces })) (sym (flag-is has.fresh has.new_is)) (sym store_is)
       where
         flag-is : (b : Bool) → one_text (found_of m) (codes "new") ≡ Some (bool_text b) → flag ≡ b
         flag-is true same = on same

@@ -24,6 +24,7 @@ abbrev pub asked_of : Options → line.Options
 asked_of options = record {
   fresh = options.fresh;
   tick = options.tick;
+  make = options.make;
   store = options.store.now;
   spaces = spaces_asked options.spaces.items;
 }
@@ -33,13 +34,23 @@ abbrev pub values_of : Option (Bor (List ℕ)) → List (List ℕ)
 values_of None = []
 values_of (Some value) = value.now ∷ []
 
--- `--new`
-abbrev pub new_option : Rule
-new_option = record (new_rule (codes "new")) { long = Some (codes "new"); action = Some SetTrue }
+-- an option that stands alone
+abbrev pub flag_option : List ℕ → Rule
+flag_option name = record (new_rule name) { long = Some name; action = Some SetTrue }
 
--- `--tick`, with one value
+-- an option with one value
+abbrev pub valued_option : List ℕ → Rule
+valued_option name = record (new_rule name) { long = Some name }
+
+-- `--new`, `--tick` and `--make`
+abbrev pub new_option : Rule
+new_option = flag_option (codes "new")
+
 abbrev pub tick_option : Rule
-tick_option = record (new_rule (codes "tick")) { long = Some (codes "tick") }
+tick_option = valued_option (codes "tick")
+
+abbrev pub make_option : Rule
+make_option = valued_option (codes "make")
 
 -- STORE
 abbrev pub store_name : Rule
@@ -55,7 +66,7 @@ bare = on_top (λ s. record s { no_binary_name = true; disable_help_flag = true 
 
 -- and with them
 abbrev pub hac : App
-hac = with_rule (with_rule (with_rule (with_rule bare new_option) tick_option) store_name) space_names
+hac = with_rule (with_rule (with_rule (with_rule (with_rule bare new_option) tick_option) make_option) store_name) space_names
 
 -- an error of the library, as a fault
 abbrev pub fault_by : ErrorKind → WordsFault

@@ -6,6 +6,7 @@
 mod answering;
 mod attaching;
 mod deciding;
+mod generating;
 mod opening;
 mod running;
 mod status;
@@ -14,5 +15,6 @@ mod taking;
 mod ticking;
 mod words;
 
+pub use generating::make_script;
 pub use running::run;
 pub use status::Status;

@@ -1,19 +1,22 @@
 //! Reading the words of the program: the name of its store, whether that is to be a new one, how
-//! many files may be indexed behind each command, and which spaces there are. It knows no device.
-ghost use Rattle.std.specs.Prelude.{◌≡◌, IfErr, IfOk, Some, None, map, string_bytes};
+//! many files may be indexed behind each command, from which number the script is drawn, if it is,
+//! and which spaces there are. It knows no device.
+ghost use Rattle.std.specs.Prelude.{◌≡◌, false, IfErr, IfOk, Some, None, map, string_bytes};
 ghost use Rattle.std.specs.List.{list_any};
 ghost use Rattle.std.specs.Str.{bytes_eq};
-ghost use Rattle.clap.specs.Words.{app_of};
-ghost use Rattle.hac_model.specs.Script.CommandLine.{each_space, may_stand, names_differ};
-ghost use Rattle.hac_model.specs.Script.CommandLine.{options, space_of, spaces_of, tick_of};
-ghost use Rattle.hac_top.specs.Words.{asked_of, hac, space_asked, spaces_asked, values_of};
+ghost use Rattle.clap.specs.Words.{app_of, rule_of};
+ghost use Rattle.hac_model.specs.Script.CommandLine.{each_space, make_of, may_stand};
+ghost use Rattle.hac_model.specs.Script.CommandLine.{names_differ, options, space_of};
+ghost use Rattle.hac_model.specs.Script.CommandLine.{spaces_of, tick_of};
+ghost use Rattle.hac_top.specs.Words.{asked_of, flag_option, hac, space_asked, spaces_asked};
+ghost use Rattle.hac_top.specs.Words.{valued_option, values_of};
 
 use clap::builder::ValueParser;
 use clap::error::ErrorKind;
 use clap::{Arg, ArgAction, Command};
 use hac_model::{Name, SPACES_LIMIT};
 use hac_names::is_space_name;
-use shell_lang::steps_of;
+use shell_lang::{seed_of, steps_of};
 use std::alloc::{AllocError, Global};
 
 /// What the words ask for.
@@ -23,6 +26,8 @@ pub(crate) struct Options<'a> {
     pub(crate) fresh: bool,
     /// The most index steps that follow each command by themselves.
     pub(crate) tick: u64,
+    /// The number from which the script is drawn. None where the script is read.
+    pub(crate) make: Option<u64>,
     /// The name of its file.
     pub(crate) store: &'a str,
     /// The spaces, in the order of the words. No two have the same name.
@@ -84,11 +89,15 @@ pub(crate) fn read_words(alloc: Global, words: &[String]) -> Result<Options<'_>,
     let Some(tick) = tick_of(matches.get_str("tick")) else {
         return Err(WordsFault::Usage);
     };
+    let Some(make) = make_of(matches.get_str("make")) else {
+        return Err(WordsFault::Usage);
+    };
     let names = matches.get_raw("spaces").unwrap_or(&[]);
     match spaces_of(alloc, names) {
         Ok(spaces) => Ok(Options {
             fresh: matches.get_flag("new"),
             tick,
+            make,
             store: matches.get_str("store").unwrap(),
             spaces,
         }),
@@ -104,6 +113,19 @@ fn tick_of(value: Option<&str>) -> Option<u64>
     match value {
         Some(text) => steps_of(text.as_bytes()),
         None => Some(0),
+    }
+}
+
+/// The number that `--make` gives, where it is there.
+fn make_of(value: Option<&str>) -> Option<Option<u64>>
+    ensures { result ≡ make_of (values_of value.entry) }
+{
+    match value {
+        Some(text) => match seed_of(text.as_bytes()) {
+            Some(seed) => Some(Some(seed)),
+            None => None,
+        },
+        None => Some(None),
     }
 }
 
@@ -188,10 +210,9 @@ fn is_named(spaces: &[SpaceFile<'_>], name: &Name) -> bool
 fn command<'a>(alloc: Global) -> Result<Command<'a>, AllocError>
     ensures { IfOk result (λ command. app_of command ≡ hac) }
 {
-    let fresh = Arg::new(alloc, "new")
-        .long("new")
-        .action(ArgAction::SetTrue);
-    let tick = Arg::new(alloc, "tick").long("tick");
+    let fresh = flag(alloc, "new");
+    let tick = valued(alloc, "tick");
+    let make = valued(alloc, "make");
     let store = Arg::new(alloc, "store")
         .value_parser(ValueParser::NonEmptyString)
         .required(true);
@@ -201,6 +222,23 @@ fn command<'a>(alloc: Global) -> Result<Command<'a>, AllocError>
         .disable_help_flag(true)
         .arg(fresh)?
         .arg(tick)?
+        .arg(make)?
         .arg(store)?
         .arg(spaces)
+}
+
+/// An option that stands alone.
+fn flag<'a>(alloc: Global, name: &'a str) -> Arg<'a>
+    ensures rule { rule_of result ≡ flag_option name.now }
+    ensures local { result.global ≡ false }
+{
+    Arg::new(alloc, name).long(name).action(ArgAction::SetTrue)
+}
+
+/// An option with a value.
+fn valued<'a>(alloc: Global, name: &'a str) -> Arg<'a>
+    ensures rule { rule_of result ≡ valued_option name.now }
+    ensures local { result.global ≡ false }
+{
+    Arg::new(alloc, name).long(name)
 }

@@ -18,7 +18,7 @@ use Rattle.hac_model.specs.Script.Numbers.{is_number}
 use Rattle.hac_model.specs.declared.replies.Refusal.TheVariants.{BadLine}
 use Rattle.hac_model.proofs.QuoteLemmas.{word-only}
 use Rattle.shell_lang.specs.RawWords.{IsRaw}
-use Rattle.shell_lang.proofs.NumberLemmas.{number-digits}
+use Rattle.shell_lang.proofs.NumberLemmas.{all-digits, number-digits}
 use Rattle.shell_lang.proofs.QuoteLemmas.{quoted-closed}
 
 -- what follows a word that is read
@@ -129,7 +129,7 @@ digits-plain (c ∷ cs) h =
     ap (λ (m : Bool). m || has_mark cs) other ∙ digits-plain cs h.1
 
 number-plain : (w : List ℕ) → is_number w ≡ true → has_mark w ≡ false
-number-plain w h = digits-plain w (number-digits w h).0
+number-plain w h = digits-plain w (all-digits w (number-digits 10 w (omega arith) h).0)
 
 pub raw-put : (raw word : List ℕ) → IsRaw raw word → is_put raw ≡ is_put word
 raw-put raw word stands = raw-test is_put put-plain raw word stands

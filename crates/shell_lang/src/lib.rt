@@ -18,7 +18,7 @@ mod words;
 mod writing;
 
 pub use commands::print_command;
-pub use numbers::steps_of;
+pub use numbers::{seed_of, steps_of};
 pub use parsing::parse_line;
 pub use printing::print_reply;
 pub use putting::put_length;
