@@ -1,5 +1,5 @@
 -- What a call answers that reads a path word.
-use Rattle.std.specs.Prelude.{◌≡◌, ⊤, ◌+◌, ◌==◌, if◌then◌else◌, ℕ, List, [], ◌∷◌, ◌++◌, length, Result, Ok, Err}
+use Rattle.std.specs.Prelude.{◌≡◌, ⊤, ◌+◌, ◌==◌, if◌then◌else◌, ℕ, List, [], ◌∷◌, ◌++◌, length, Result, Err}
 use Rattle.hac_model.specs.Run.Answers.{Gives}
 use Rattle.hac_model.specs.Tree.Paths.{without_last}
 use Rattle.hac_model.specs.Script.PathWords.{is_idle, is_up}

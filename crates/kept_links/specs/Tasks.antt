@@ -1,5 +1,5 @@
 -- What is judged again after an event.
-use Rattle.std.specs.Prelude.{◌≡◌, ◌≢◌, ◌==◌, ℕ, Bool, true, List, [], ◌∷◌, map}
+use Rattle.std.specs.Prelude.{◌≡◌, ◌≢◌, ◌==◌, ℕ, Bool, true, List, [], ◌∷◌}
 use Rattle.dep_graph.specs.Searches.{EachOnce, IsCone}
 use Rattle.hac_model.specs.Tree.Depends.{Among, depends}
 use Rattle.hac_model.specs.Tree.Events.{apply}
