@@ -53,7 +53,7 @@ impl<'t> PartialEq for Run<'t> {
     ghost laws = { partial_equiv_from_equiv nat_list_eq_equiv };
 
     fn eq(&self, other: &Run<'t>) -> bool {
-        self.bytes == other.bytes
+        self.front == other.front && self.bytes == other.bytes
     }
 }
 
@@ -81,13 +81,10 @@ impl<'t> Ord for Run<'t> {
     ghost matches_eq = { texts_ties };
 
     fn cmp(&self, other: &Run<'t>) -> Ordering {
-        if self.front < other.front {
-            return Ordering::Less;
+        match self.front.cmp(&other.front) {
+            Ordering::Equal => self.bytes.cmp(other.bytes),
+            apart => apart,
         }
-        if other.front < self.front {
-            return Ordering::Greater;
-        }
-        self.bytes.cmp(other.bytes)
     }
 }
 
