@@ -9,10 +9,12 @@ use Rattle.std.specs.Ordering.{nat_cmp, ordering_then}
 use Rattle.std.specs.declared.cmp.Ordering.TheVariants.{Less, Equal, Greater}
 use Rattle.hac_words.specs.Fronts.{front_of}
 
+-- each is a byte
 abbrev AreBytes : List ℕ → Type 0
 AreBytes bytes = (at : ℕ) → get_or bytes at 0 < 256
 
-abbrev pub AgreeBelow : List ℕ → List ℕ → ℕ → Type 0
+-- at the first n places they agree
+abbrev AgreeBelow : List ℕ → List ℕ → ℕ → Type 0
 AgreeBelow xs ys n = (at : ℕ) → at < n → get_or xs at 0 ≡ get_or ys at 0
 
 -- equal fronts are of equal bytes
@@ -81,7 +83,7 @@ pub front_of-bytes : (bytes : List ℕ) → from_be_bytes w64 bytes ≡ front_of
 unfolding front_of
 front_of-bytes bytes = omega arith
 
-pub same-front : (n : ℕ) (xs ys : List ℕ) → AgreeBelow xs ys n → front_of n xs ≡ front_of n ys
+same-front : (n : ℕ) (xs ys : List ℕ) → AgreeBelow xs ys n → front_of n xs ≡ front_of n ys
 unfolding front_of
 same-front zero xs ys agree = refl
 same-front (suc n) xs ys agree = λ i. same-front n xs ys (λ at below. agree at (omega arith)) i * 256 + agree n (omega arith) i
