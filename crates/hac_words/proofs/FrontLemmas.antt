@@ -1,5 +1,5 @@
 -- Lists whose first numbers differ are in the order of those.
-use Rattle.std.proofs.Common.{◌≡◌, ◌∙◌, ℕ, zero, suc, ◌+◌, ◌-◌, ◌*◌, ◌<◌, ◌≤◌, min, List, [], ◌∷◌, ◌++◌, drop, get_or, length, replicate, slice_index, take, refl, ap, sym, w64, arith, ⊎_elim}
+use Rattle.std.proofs.Common.{◌≡◌, ◌≢◌, ◌∙◌, ℕ, zero, suc, ◌+◌, ◌-◌, ◌*◌, ◌<◌, ◌≤◌, min, List, [], ◌∷◌, ◌++◌, drop, get_or, length, replicate, slice_index, take, refl, ap, sym, w64, arith, ⊎_elim}
 use Rattle.std.proofs.lemmas.Bool.{cases_eq, cases_lt, cases_order}
 use Rattle.std.proofs.lemmas.Bool.Decides.{nat_tests}
 use Rattle.std.proofs.lemmas.List.{get_or-append_right, get_or-drop, get_or-take, get_or_append_left, get_or_past, length-take}
@@ -9,10 +9,12 @@ use Rattle.std.specs.Ordering.{nat_cmp, ordering_then}
 use Rattle.std.specs.declared.cmp.Ordering.TheVariants.{Less, Equal, Greater}
 use Rattle.hac_words.specs.Fronts.{front_of}
 
+-- each is a byte
 abbrev AreBytes : List ℕ → Type 0
 AreBytes bytes = (at : ℕ) → get_or bytes at 0 < 256
 
-abbrev pub AgreeBelow : List ℕ → List ℕ → ℕ → Type 0
+-- at the first n places they agree
+abbrev AgreeBelow : List ℕ → List ℕ → ℕ → Type 0
 AgreeBelow xs ys n = (at : ℕ) → at < n → get_or xs at 0 ≡ get_or ys at 0
 
 -- equal fronts are of equal bytes
@@ -66,12 +68,12 @@ slices-more (suc at) (x ∷ xs) (y ∷ ys) agree less =
     ap (λ r. ordering_then r (slice_cmp nat_cmp xs ys)) (cmp-same x y (sym (agree 0 (omega arith))))
     ∙ slices-more at xs ys (λ k below. agree (suc k) (omega arith)) less
 
-pub fronts-less : (n : ℕ) (xs ys : List ℕ) → AreBytes xs → AreBytes ys → front_of n xs < front_of n ys → slice_cmp nat_cmp xs ys ≡ Less
+fronts-less : (n : ℕ) (xs ys : List ℕ) → AreBytes xs → AreBytes ys → front_of n xs < front_of n ys → slice_cmp nat_cmp xs ys ≡ Less
 fronts-less n xs ys small few below =
     let first = first-front n xs ys small few below in
     slices-less first.0 xs ys first.1 first.2
 
-pub fronts-more : (n : ℕ) (xs ys : List ℕ) → AreBytes xs → AreBytes ys → front_of n ys < front_of n xs → slice_cmp nat_cmp xs ys ≡ Greater
+fronts-more : (n : ℕ) (xs ys : List ℕ) → AreBytes xs → AreBytes ys → front_of n ys < front_of n xs → slice_cmp nat_cmp xs ys ≡ Greater
 fronts-more n xs ys small few below =
     let first = first-front n ys xs few small below in
     slices-more first.0 xs ys first.1 first.2
@@ -81,7 +83,7 @@ pub front_of-bytes : (bytes : List ℕ) → from_be_bytes w64 bytes ≡ front_of
 unfolding front_of
 front_of-bytes bytes = omega arith
 
-pub same-front : (n : ℕ) (xs ys : List ℕ) → AgreeBelow xs ys n → front_of n xs ≡ front_of n ys
+same-front : (n : ℕ) (xs ys : List ℕ) → AgreeBelow xs ys n → front_of n xs ≡ front_of n ys
 unfolding front_of
 same-front zero xs ys agree = refl
 same-front (suc n) xs ys agree = λ i. same-front n xs ys (λ at below. agree at (omega arith)) i * 256 + agree n (omega arith) i
@@ -102,3 +104,15 @@ front_of-filled bytes part count from few is =
     let missing : length bytes ≤ at = omega arith in
     get_or-append_right part (drop from (replicate 8 0)) (length part) at 0 refl past ∙ get_or-drop from (replicate 8 0) (at - length part) 0 ∙ zeros-read 8 (from + (at - length part)) ∙ sym (get_or_past bytes at 0 missing))
     (cases_lt at (length part)))
+
+-- where the first bytes aren't the same, they decide
+pub fronts-decide : (n : ℕ) (xs ys : List ℕ) → AreBytes xs → AreBytes ys → nat_cmp (front_of n xs) (front_of n ys) ≢ Equal → nat_cmp (front_of n xs) (front_of n ys) ≡ slice_cmp nat_cmp xs ys
+fronts-decide n xs ys small few apart =
+    ⊎_elim
+    (λ same. absurd (apart (cmp-same _ _ same)))
+    (λ other.
+    ⊎_elim
+    (λ less. cmp-less _ _ less ∙ sym (fronts-less n xs ys small few less))
+    (λ more. cmp-more _ _ more ∙ sym (fronts-more n xs ys small few more))
+    other)
+    (cases_order (front_of n xs) (front_of n ys))

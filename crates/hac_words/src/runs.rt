@@ -18,14 +18,14 @@ pub(crate) struct Run<'t> {
 }
 
 impl<'t> Model for Run<'t> {
-    ghost use Rattle.std.specs.Prelude.{◌≡◌, ◌<◌, ℕ, List, slice_index};
-    ghost use Rattle.hac_words.specs.Fronts.{front_of};
+    ghost use Rattle.std.specs.Prelude.{ℕ, List};
+    ghost use Rattle.hac_words.specs.Fronts.{IsFront};
 
     ghost Value = { List ℕ };
 
     ghost view = { λ run. run.bytes.now };
 
-    ghost invariant = { λ run. (run.front ≡ front_of 8 run.bytes.now) × ((at : ℕ) → slice_index run.bytes.now at < 256) };
+    ghost invariant = { λ run. IsFront run.front run.bytes.now };
 }
 
 impl<'t> Run<'t> {
@@ -53,7 +53,7 @@ impl<'t> PartialEq for Run<'t> {
     ghost laws = { partial_equiv_from_equiv nat_list_eq_equiv };
 
     fn eq(&self, other: &Run<'t>) -> bool {
-        self.bytes == other.bytes
+        self.front == other.front && self.bytes == other.bytes
     }
 }
 
@@ -81,16 +81,14 @@ impl<'t> Ord for Run<'t> {
     ghost matches_eq = { texts_ties };
 
     fn cmp(&self, other: &Run<'t>) -> Ordering {
-        if self.front < other.front {
-            return Ordering::Less;
+        match self.front.cmp(&other.front) {
+            Ordering::Equal => self.bytes.cmp(other.bytes),
+            apart => apart,
         }
-        if other.front < self.front {
-            return Ordering::Greater;
-        }
-        self.bytes.cmp(other.bytes)
     }
 }
 
+// The first eight bytes as a number, with 0 for each that is missing.
 fn front_of(bytes: &[u8]) -> u64
     ensures { result ≡ front_of 8 bytes.now }
 {
