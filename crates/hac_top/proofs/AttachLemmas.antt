@@ -7,7 +7,7 @@ use Rattle.std.specs.Option.{option_and_then, option_map}
 use Rattle.std.specs.Str.{bytes_eq}
 use Rattle.std.proofs.lemmas.List.{length-map, length-take-le, map-append, map_more, take-append-drop}
 use Rattle.std.proofs.lemmas.Slice.Eq.{bytes_eq-Decides}
-use Rattle.hac_model.specs.Script.CommandLine.{Options, Parsed, Space, asked_by, each_space, fresh_of, given_by, may_stand, names_differ, options, spaces_of, store_of, tick_of}
+use Rattle.hac_model.specs.Script.CommandLine.{Options, Parsed, Space, asked_by, each_space, fresh_of, given_by, make_of, may_stand, names_differ, options, spaces_of, store_of, tick_of}
 use Rattle.hac_model.specs.declared.limits.TheConstants.{SPACES_LIMIT}
 use Rattle.hac_outside.specs.Causes.{Rose}
 use Rattle.hac_outside.specs.Known.{Known}
@@ -183,14 +183,16 @@ attach-stops files i file below is old now new has (Err other) fault failed name
     })
 
 -- what is asked for has the spaces that the words give
-asked-spaces : (fresh : Option Bool) (tick : Option ℕ) (store : Option (List ℕ)) (spaces : Option (List Space)) (asked : Options) →
-    option_and_then (λ fresh. option_and_then (λ tick. option_and_then (λ store. option_map (λ spaces. record { fresh = fresh; tick = tick; store = store; spaces = spaces }) spaces) store) tick) fresh ≡ Some asked →
+asked-spaces : (fresh : Option Bool) (tick : Option ℕ) (make : Option (Option ℕ)) (store : Option (List ℕ)) (spaces : Option (List Space)) (asked : Options) →
+    option_and_then (λ fresh. option_and_then (λ tick. option_and_then (λ make. option_and_then (λ store. option_map (λ spaces.
+    record { fresh = fresh; tick = tick; make = make; store = store; spaces = spaces }) spaces) store) make) tick) fresh ≡ Some asked →
     spaces ≡ Some asked.spaces
-asked-spaces None tick store spaces asked is = absurd cc
-asked-spaces (Some fresh) None store spaces asked is = absurd cc
-asked-spaces (Some fresh) (Some tick) None spaces asked is = absurd cc
-asked-spaces (Some fresh) (Some tick) (Some store) None asked is = absurd cc
-asked-spaces (Some fresh) (Some tick) (Some store) (Some spaces) asked is = ap (option_map (λ (o : Options). o.spaces)) is
+asked-spaces None tick make store spaces asked is = absurd cc
+asked-spaces (Some fresh) None make store spaces asked is = absurd cc
+asked-spaces (Some fresh) (Some tick) None store spaces asked is = absurd cc
+asked-spaces (Some fresh) (Some tick) (Some make) None spaces asked is = absurd cc
+asked-spaces (Some fresh) (Some tick) (Some make) (Some store) None asked is = absurd cc
+asked-spaces (Some fresh) (Some tick) (Some make) (Some store) (Some spaces) asked is = ap (option_map (λ (o : Options). o.spaces)) is
 
 -- those that may stand together have different names
 stand-differ : (read : Option (List Space)) (spaces : List Space) → option_and_then (λ spaces. if may_stand spaces then Some spaces else None) read ≡ Some spaces → names_differ (names_of spaces) ≡ true
@@ -211,7 +213,7 @@ asked-differ words asked is = by (given_by words) is
     by None is = absurd cc
     by (Some given) is =
         stand-differ (each_space (drop 1 given.names)) asked.spaces
-        (asked-spaces (fresh_of given.news) (tick_of given.ticks) (store_of given.names) (spaces_of (drop 1 given.names)) asked is)
+        (asked-spaces (fresh_of given.news) (tick_of given.ticks) (make_of given.makes) (store_of given.names) (spaces_of (drop 1 given.names)) asked is)
 
 -- a fact of each is one of that one
 at-middle : (P : Space → Type 0) (front behind : List Space) (space : Space) → AllByRecursion P (front ++ space ∷ behind) → P space

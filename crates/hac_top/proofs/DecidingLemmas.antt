@@ -51,7 +51,7 @@ reading-apart Checkpoint reading = absurd cc
 reading-apart other reading = refl
 
 -- a draft reads where its command does
-reading-is : (s : State) (command : Resolved) (draft : DraftSeen) → IsDraftFor s command draft → is_reading command ≡ reads draft
+pub reading-is : (s : State) (command : Resolved) (draft : DraftSeen) → IsDraftFor s command draft → is_reading command ≡ reads draft
 reading-is s command draft for = of draft.known for.known.known
   where
     by : (command : Resolved) (event : Event) → event_of no_answers s command ≡ Some event → is_reading command ≡ false

@@ -16,6 +16,8 @@ pub mod OpenedLemmas
 pub mod OpeningLemmas
 pub mod AttachLemmas
 pub mod UnattachedLemmas
+pub mod CountsLemmas
+pub mod MakingLemmas
 pub mod GeneratingLemmas
 pub mod WordSpaces
 pub mod WordLooks

@@ -1,5 +1,5 @@
 -- How a run goes on by a line that was taken, decided, stored and told, and how each way out of it ends.
-use Rattle.std.proofs.Common.{◌≡◌, ℕ, ◌+◌, ◌≤◌, Bool, true, false, List, [], ◌++◌, length, refl, ap, sym, ◌∙◌, arith, rules, subst, inl, inr, Option, Some, None}
+use Rattle.std.proofs.Common.{◌≡◌, ℕ, ◌+◌, ◌≤◌, Bool, true, false, List, [], ◌++◌, length, refl, ap, sym, ◌∙◌, arith, rules, subst, inl, inr, Option, Some, None, Ok, Err}
 use Rattle.std.specs.Prelude.{◌||◌}
 use Rattle.std.specs.Option.{IfSome}
 use Rattle.std.specs.Io.KnownBytes.{Appends, prepend_known}
@@ -25,7 +25,7 @@ use Rattle.shell_lang.proofs.ReaderLemmas.{total_on}
 use Rattle.hac_top.specs.Crashes.{Holds, IsTreeAfter, IsTreeOfAnswered}
 use Rattle.hac_top.specs.Ends.{IsFinished, IsOpenStatus, finished_status, is_disk_fault, is_read_fault, is_write_fault}
 use Rattle.hac_top.specs.Asking.{HaveAsked, faults_after, given_by}
-use Rattle.hac_top.specs.Run.{AnswersBy, Ends, IsTreeOf, Outside, Played, PlaysStore, given_after, outside}
+use Rattle.hac_top.specs.Run.{AnswersBy, Ends, IsTreeOf, Outside, Played, PlaysOn, PlaysStore, given_after, outside}
 use Rattle.hac_top.specs.Ticking.{command_events}
 use Rattle.hac_top.specs.Storing.{AnswersLine, AreTurns, StopsAnswer, StopsBehind, StopsReply, Stores}
 use Rattle.hac_top.specs.TakenLines.{GivesFrom, GivesTaken, LeavesSource, StopsIn, StopsLine, StopsTaking, TakesLine, items_of_taken}
@@ -35,7 +35,7 @@ use Rattle.hac_top.specs.declared.taking.TakenLine.{TakenLine}
 use Rattle.hac_top.proofs.GoesOn.{Goes, IsPlayed, RunsOn, fresh_reader}
 use Rattle.hac_top.proofs.CrashLemmas.{all_events-append, answered-tree, holds-weaker, none-answered, tree-more, tree-then}
 use Rattle.hac_top.proofs.PlayedLemmas.{askable-all, faults-append, here-all, here-askable, here-goes, here-next, open-played, played-first, played-next}
-use Rattle.hac_top.proofs.RunLemmas.{answered-held, answered-so_far, answers-stop, line-stops, nothing-stops, played-behind, played-cut, played-end, played-stop, turns-are}
+use Rattle.hac_top.proofs.RunLemmas.{answered-held, answered-so_far, answers-stop, left-end, line-stops, nothing-stops, played-behind, played-cut, played-end, played-stop, turns-are}
 use Rattle.hac_top.proofs.StoringLemmas.{held-before, told-since}
 
 -- facts of bytes that a source may not tell
@@ -213,6 +213,24 @@ module _ {D : Type 0} {seen : D → Option (List ℕ)} {image : D → List ℕ �
           names = was.names;
           reported = no-fault (is_disk_fault (finished_status refused)) (faults old) (faults mid) (finished-facts refused).0 was.quiet;
         }
+
+    -- what the store has gone on to is what it left
+    runs-left : {source : SourceSeen} {new : Reading} → TakesLine reader new now.source source None →
+        IfSome spaces.contents (λ c. IfSome before.source.left (λ s. store.setting ≡ left_by first (play (given_by c was.met tick) first s)))
+    runs-left {source} {new} takes =
+        stop-script new.taken (λ p l. (p ≡ []) × (new.buffered ++ l ≡ [])) (λ c s. store.setting ≡ left_by first (play (given_by c was.met tick) first s))
+        (λ c s p l _ played none _. left-end (given_by c was.met tick) (given_by c [] tick) first s p reader.ended store.setting refused before.sink now.sink played.goes none.0)
+        (known-behind (λ p q. (p ≡ []) × (q ≡ [])) (pending reader now.source.left) source.left new.buffered takes.given)
+        (leaves-then false fresh_reader reader new before.source now.source source was.source takes.source).total
+
+    pub on-end : {source : SourceSeen} {new : Reading} → TakesLine reader new now.source source None →
+        PlaysOn seen image moment image_since attached faults old mid tick first before (outside source now.sink) spaces spaces_now (Ok refused) store.setting
+    unfolding runs-end
+    on-end takes = record { plays = runs-end takes; leaves = runs-left takes; stops = search rules }
+
+    pub on-stop : {source : SourceSeen} {new : Reading} {status : Status} {kept : Setting} → StopsTaking reader new now.source source status →
+        PlaysOn seen image moment image_since attached faults old mid tick first before (outside source now.sink) spaces spaces_now (Err status) kept
+    on-stop {source} {new} {status} {kept} stop = record { plays = runs-stop stop; leaves = search rules; stops = (stops-source status stop.why).unfinished }
 
     -- a line was taken, and its turns are in hand
     module _ {source : SourceSeen} {next : Reading} {line : TakenLine} (takes : TakesLine reader next now.source source (Some line)) {left : SpacesSeen} (more : List (Option (List ℕ))) (asks : HaveAsked spaces_now left more) (here : List Turn) (few : length here ≤ 1)
@@ -406,3 +424,14 @@ module _ {D : Type 0} {seen : D → Option (List ℕ)} {image : D → List ℕ �
         pub runs-cut : {status : Status} → StopsAnswer seen image moment image_since attached faults mid new store.setting now.sink sink here status → PlaysStore seen image moment image_since attached faults old new tick first before (outside source sink) spaces left status
         runs-cut {status} (inl stop) = reply-by status stop
         runs-cut {status} (inr stop) = behind-by status stop
+
+        unfinished : (status : Status) → StopsAnswer seen image moment image_since attached faults mid new store.setting now.sink sink here status → IsFinished status → ⊥
+        unfinished Done (inl stop) finished = stop.replies
+        unfinished Done (inr stop) finished = stop.why
+        unfinished SomeRefused (inl stop) finished = stop.replies
+        unfinished SomeRefused (inr stop) finished = stop.why
+        unfinished other stop finished = finished
+
+        pub on-cut : {status : Status} {kept : Setting} → StopsAnswer seen image moment image_since attached faults mid new store.setting now.sink sink here status →
+            PlaysOn seen image moment image_since attached faults old new tick first before (outside source sink) spaces left (Err status) kept
+        on-cut {status} {kept} stop = record { plays = runs-cut stop; leaves = search rules; stops = unfinished status stop }

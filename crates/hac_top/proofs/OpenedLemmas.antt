@@ -112,6 +112,28 @@ told-none old new tick setting bytes P later holds = by new.contents
     by None = search rules
     by (Some c) = ([], record { askable = askable-none c tick setting (Script.script bytes); counted = later; none = λ _. refl }, holds (given_by c [] tick))
 
+-- what is said of a run whose spaces were attached before, given what follows from it
+pub told-given : (fresh : Bool) (tick : ℕ) (P R : Given → Setting → List ℕ → Type 0) → ((given : Given) (setting : Setting) (script : List ℕ) → P given setting script → R given setting script) →
+    (old mid new : SpacesSeen) → mid.faults ≡ old.faults → (seen left : Option (List ℕ)) →
+    IfSome seen (λ file. IfSome left (λ script. IfOk (opening_outcome fresh (held file)) (λ setting. IfTold mid new tick setting script (λ given. P given setting script)))) →
+    IfSome seen (λ file. IfSome left (λ script. IfOk (opening_outcome fresh (held file)) (λ setting. IfTold old new tick setting script (λ given. R given setting script))))
+told-given fresh tick P R then_r old mid new same None left told = search rules
+told-given fresh tick P R then_r old mid new same (Some file) None told = search rules
+told-given fresh tick P R then_r old mid new same (Some file) (Some script) told = by (opening_outcome fresh (held file)) told
+  where
+    of : (setting : Setting) (o : Option Contents) → IfSome o (λ c. (met : List (Option (List ℕ))) × AreMet mid new (given_by c met tick) setting script × P (given_by c met tick) setting script) →
+        IfSome o (λ c. (met : List (Option (List ℕ))) × AreMet old new (given_by c met tick) setting script × R (given_by c met tick) setting script)
+    of setting None told = search rules
+    of setting (Some c) (met, are, told) = (
+      met,
+      record { askable = are.askable; counted = subst (λ (n : ℕ). faults_after n met ≤ new.faults) same are.counted; none = λ quiet. are.none (λ rose. quiet (subst (λ (n : ℕ). Rose n new.faults) same rose)) },
+      then_r (given_by c met tick) setting script told,
+    )
+
+    by : (r : Result Setting Status) → IfOk r (λ setting. IfTold mid new tick setting script (λ given. P given setting script)) → IfOk r (λ setting. IfTold old new tick setting script (λ given. R given setting script))
+    by (Err wanted) told = search rules
+    by (Ok setting) told = of setting new.contents told
+
 -- a disk whose count hasn't risen hasn't failed
 no-disk : (failed : Bool) (before now : ℕ) → ReportsFault failed before now → ¬ Rose before now → failed ≡ true → ⊥
 no-disk true before now told none is = none told.1
@@ -161,39 +183,52 @@ module _ {D : Type 0} (seen : D → Option (List ℕ)) (image : D → List ℕ �
         let counted : faults_after spaces.faults plays.met ≤ left.faults = omega (arith, plays.asked.count) in
         record { askable = askable; counted = counted; none = met-none spaces.faults left.faults plays.met counted }
 
-    ran-told : (script : Option (List ℕ)) (o : Option Contents) → IfSome o (λ c. IfSome script (λ s. AreAskable (given_by c plays.met tick) setting (Script.script s))) →
-        IfSome o (λ c. IfSome script (λ s. Played false (given_by c plays.met tick) status setting s before after (Stands (seen mid) (image mid) setting) (image new))) →
-        IfSome o (λ c. IfSome script (λ s. Stands (seen mid) (image mid) setting → LeavesOnly moment image_since mid new (Holds (IsTreeOf (given_by c plays.met tick) setting s)))) →
-        Stands (seen mid) (image mid) setting → Opening fresh settled old mid setting →
-        IfSome script (λ s. IfSome o (λ c. (met : List (Option (List ℕ))) × AreMet spaces left (given_by c met tick) setting s ×
-        Ran fresh (given_by c met tick) status setting s before after settled (image new) (LeavesOnly moment image_since old new) (IsFaultless before after (faults old) (faults new))))
-    ran-told None o askable played moments stands opening = search rules
-    ran-told (Some s) None askable played moments stands opening = search rules
-    ran-told (Some s) (Some c) askable played moments stands opening = (plays.met, ran-met c s askable, ran-from (given_by c plays.met tick) s stands opening played moments)
+    -- the same and what else is known of it
+    module _ (Q : Given → Setting → List ℕ → Type 0) where
+      abbrev Says : Setting → List ℕ → Given → Type 0
+      Says z script given =
+          Ran fresh given status z script before after settled (image new) (LeavesOnly moment image_since old new) (IsFaultless before after (faults old) (faults new)) × Q given z script
+
+      ran-told : (script : Option (List ℕ)) (o : Option Contents) → IfSome o (λ c. IfSome script (λ s. AreAskable (given_by c plays.met tick) setting (Script.script s))) →
+          IfSome o (λ c. IfSome script (λ s. Played false (given_by c plays.met tick) status setting s before after (Stands (seen mid) (image mid) setting) (image new))) →
+          IfSome o (λ c. IfSome script (λ s. Stands (seen mid) (image mid) setting → LeavesOnly moment image_since mid new (Holds (IsTreeOf (given_by c plays.met tick) setting s)))) →
+          IfSome o (λ c. IfSome script (λ s. Q (given_by c plays.met tick) setting s)) → Stands (seen mid) (image mid) setting → Opening fresh settled old mid setting →
+          IfSome script (λ s. IfSome o (λ c. (met : List (Option (List ℕ))) × AreMet spaces left (given_by c met tick) setting s × Says setting s (given_by c met tick)))
+      ran-told None o askable played moments other stands opening = search rules
+      ran-told (Some s) None askable played moments other stands opening = search rules
+      ran-told (Some s) (Some c) askable played moments other stands opening = (plays.met, ran-met c s askable, (ran-from (given_by c plays.met tick) s stands opening played moments, other))
+
+      pub ran-opened-with : (file : Option (List ℕ)) → IfSome file (λ f. opening_outcome fresh (held f) ≡ Ok setting) → IfSome file (λ _. Stands (seen mid) (image mid) setting) →
+          IfSome file (λ f. IfOk (opening_outcome fresh (held f)) (Opening fresh settled old mid)) → IfSome spaces.contents (λ c. IfSome before.source.left (λ s. Q (given_by c plays.met tick) setting s)) →
+          IfSome file (λ f. IfSome before.source.left (λ script. IfOk (opening_outcome fresh (held f)) (λ z. IfTold spaces left tick z script (Says z script))))
+      ran-opened-with None is stands opening other = search rules
+      ran-opened-with (Some f) is stands opening other =
+          both before.source.left (λ s. IfSome spaces.contents (λ c. (met : List (Option (List ℕ))) × AreMet spaces left (given_by c met tick) setting s × Says setting s (given_by c met tick)))
+          (λ s. ⊤) (λ script. IfOk (opening_outcome fresh (held f)) (λ z. IfTold spaces left tick z script (Says z script)))
+          (λ script ran _.
+          subst (λ (r : Result Setting Status). IfOk r (λ z. IfTold spaces left tick z script (Says z script))) (sym is)
+          (subst (λ (o : Option Contents). IfSome o (λ c. (met : List (Option (List ℕ))) × AreMet spaces left (given_by c met tick) setting script × Says setting script (given_by c met tick))) (sym plays.asked.stay.contents) ran))
+          (ran-told before.source.left spaces.contents plays.askable plays.played plays.moments other stands (subst (λ (r : Result Setting Status). IfOk r (Opening fresh settled old mid)) is opening))
+          (trivial before.source.left)
+        where
+          trivial : (l : Option (List ℕ)) → IfSome l (λ s. ⊤)
+          trivial None = search rules
+          trivial (Some s) = tt
 
     pub ran-opened : (file : Option (List ℕ)) → IfSome file (λ f. opening_outcome fresh (held f) ≡ Ok setting) → IfSome file (λ _. Stands (seen mid) (image mid) setting) →
         IfSome file (λ f. IfOk (opening_outcome fresh (held f)) (Opening fresh settled old mid)) →
         IfSome file (λ f. IfSome before.source.left (λ script. IfOk (opening_outcome fresh (held f)) (λ z. IfTold spaces left tick z script (λ given.
         Ran fresh given status z script before after settled (image new) (LeavesOnly moment image_since old new) (IsFaultless before after (faults old) (faults new))))))
-    ran-opened None is stands opening = search rules
-    ran-opened (Some f) is stands opening =
-        both before.source.left
-        (λ s. IfSome spaces.contents (λ c. (met : List (Option (List ℕ))) × AreMet spaces left (given_by c met tick) setting s ×
-        Ran fresh (given_by c met tick) status setting s before after settled (image new) (LeavesOnly moment image_since old new) (IsFaultless before after (faults old) (faults new))))
-        (λ s. ⊤)
-        (λ script. IfOk (opening_outcome fresh (held f)) (λ z. IfTold spaces left tick z script (λ given.
-        Ran fresh given status z script before after settled (image new) (LeavesOnly moment image_since old new) (IsFaultless before after (faults old) (faults new)))))
-        (λ script ran _.
-        subst (λ (r : Result Setting Status). IfOk r (λ z. IfTold spaces left tick z script (λ given.
-        Ran fresh given status z script before after settled (image new) (LeavesOnly moment image_since old new) (IsFaultless before after (faults old) (faults new))))) (sym is)
-        (subst (λ (o : Option Contents). IfSome o (λ c. (met : List (Option (List ℕ))) × AreMet spaces left (given_by c met tick) setting script ×
-        Ran fresh (given_by c met tick) status setting script before after settled (image new) (LeavesOnly moment image_since old new) (IsFaultless before after (faults old) (faults new)))) (sym plays.asked.stay.contents) ran))
-        (ran-told before.source.left spaces.contents plays.askable plays.played plays.moments stands (subst (λ (r : Result Setting Status). IfOk r (Opening fresh settled old mid)) is opening))
-        (trivial before.source.left)
+    ran-opened file is stands opening =
+        told-given fresh tick (λ given z script. Says (λ given z script. ⊤) z script given)
+        (λ given z script. Ran fresh given status z script before after settled (image new) (LeavesOnly moment image_since old new) (IsFaultless before after (faults old) (faults new)))
+        (λ given z script ran. ran.0) spaces spaces left refl file before.source.left
+        (ran-opened-with (λ given z script. ⊤) file is stands opening (nothing spaces.contents before.source.left))
       where
-        trivial : (l : Option (List ℕ)) → IfSome l (λ s. ⊤)
-        trivial None = search rules
-        trivial (Some s) = tt
+        nothing : (o : Option Contents) (l : Option (List ℕ)) → IfSome o (λ c. IfSome l (λ s. ⊤))
+        nothing None l = search rules
+        nothing (Some c) None = search rules
+        nothing (Some c) (Some s) = tt
 
   -- no store was opened: the run does nothing, and a crash leaves what it would have gone on from
   module _ (counts_now : (disk : D) (t : ℕ) (c : List ℕ) → t ≤ moment disk → image disk c → image_since disk t c) (fresh : Bool) (tick : ℕ) (settled : Type 0) (old new : D) (before : Outside) where

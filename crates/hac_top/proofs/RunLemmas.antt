@@ -265,6 +265,18 @@ module _ (given later : Given) (first : Setting) where
   answers-finished true s done left all = all
   answers-finished false s done left all = all
 
+  -- where nothing is pending all turns were answered
+  all-turns : (s p : List ℕ) (ended : Bool) (setting : Setting) (refused : Bool) (before now : SinkSeen) (goes : Goes given later first s p ended setting refused before now) → p ≡ [] →
+      play given first s ≡ turns_of given first goes.played goes.last
+  all-turns s p ended setting refused before now goes none =
+      turns-are s p ended setting refused before now goes ∙ ap (λ (xs : List ℕ). turns_of given first goes.played goes.last ++ play later setting xs) none
+      ∙ ap (λ (ts : List Turn). turns_of given first goes.played goes.last ++ ts) (play-nothing later setting) ∙ append-nil (turns_of given first goes.played goes.last)
+
+  -- and the setting is what they left
+  pub left-end : (s p : List ℕ) (ended : Bool) (setting : Setting) (refused : Bool) (before now : SinkSeen) (goes : Goes given later first s p ended setting refused before now) → p ≡ [] →
+      setting ≡ left_by first (play given first s)
+  left-end s p ended setting refused before now goes none = goes.left_is ∙ ap (left_by first) (sym (all-turns s p ended setting refused before now goes none))
+
   -- the script has ended
   pub played-end : (stood : Type 0) (image : List ℕ → Type 0) (s p l behind : List ℕ) (taken : ℕ) (ended : Bool) (setting : Setting) (refused : Bool) (before after : Outside) (goes : Goes given later first s p ended setting refused before.sink after.sink) →
       Some l ≡ after.source.left → (before.sink.held_back ≡ 0 → after.sink.held_back ≡ 0) → (p ≡ []) × (behind ++ l ≡ []) → taken + length l ≡ 0 + length s → taken ≤ SCRIPT_LIMIT → (stood → (c : List ℕ) → image c → held c ≡ Ok (stored_setting setting)) →
@@ -272,14 +284,12 @@ module _ (given later : Given) (first : Setting) where
   played-end stood image s p l behind taken ended setting refused before after goes left_is passed none total within stands =
       let done = turns_of given first goes.played goes.last in
       let nothing : l ≡ [] = no_rest behind l none.1 in
-      let all : play given first s ≡ turns_of given first goes.played goes.last =
-      turns-are s p ended setting refused before.sink after.sink goes ∙ ap (λ (xs : List ℕ). turns_of given first goes.played goes.last ++ play later setting xs) none.0
-      ∙ ap (λ (ts : List Turn). turns_of given first goes.played goes.last ++ ts) (play-nothing later setting) ∙ append-nil (turns_of given first goes.played goes.last) in
+      let all : play given first s ≡ turns_of given first goes.played goes.last = all-turns s p ended setting refused before.sink after.sink goes none.0 in
       let answers : AnswersAll given (finished_status refused) first s (length (turns_of given first goes.played goes.last)) (Some l) =
       record { read = ap Some nothing; within = omega (arith, total, within, ap length nothing); status_is = ap finished_status (goes.refused_is ∙ ap has_refusal (sym all)); all = ap length (sym all) } in
       played-stop stood image (finished_status refused) Memory s p l ended setting refused before after goes left_is passed (nothing-stops p l (none.0 ∙ sym nothing)) (answers-finished refused s (length done) (Some l) answers)
       (λ stood_now c left. answered-held s p ended setting refused before.sink after.sink goes c (stands stood_now c left))
-      (λ stood_now _ c left. stands stood_now c left ∙ ap (λ (z : Setting). Ok (stored_setting z)) (goes.left_is ∙ ap (left_by first) (sym all)))
+      (λ stood_now _ c left. stands stood_now c left ∙ ap (λ (z : Setting). Ok (stored_setting z)) (left-end s p ended setting refused before.sink after.sink goes none.0))
 
   -- the sink failed while a line was answered, whose events were stored before
   pub played-cut : (stood : Type 0) (image : List ℕ → Type 0) (s p l behind : List ℕ) (line : TakenLine) (new_ended : Bool) (setting : Setting) (refused : Bool) (mid : SinkSeen) (before after : Outside) →

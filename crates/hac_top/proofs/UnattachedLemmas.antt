@@ -6,20 +6,20 @@ use Rattle.hac_disk.specs.Images.{IsQuiet, LeavesOnly}
 use Rattle.hac_disk.specs.Contents.{IsSettled}
 use Rattle.hac_model.specs.Run.Play.{Given, Setting}
 use Rattle.hac_model.specs.Script.CommandLine.{Options, Space}
-use Rattle.hac_outside.specs.Causes.{ReportsFault, Rose}
+use Rattle.hac_outside.specs.Causes.{ReportsFault}
 use Rattle.hac_store.specs.Held.{held}
-use Rattle.sem_mounts.specs.Seen.{Contents, CountsFault, SpacesSeen, is_attach_failed}
-use Rattle.hac_top.specs.Asking.{AreMet, IfTold, StayAttached, faults_after, given_by}
+use Rattle.sem_mounts.specs.Seen.{CountsFault, SpacesSeen, is_attach_failed}
+use Rattle.hac_top.specs.Asking.{IfTold, StayAttached}
 use Rattle.sem_mounts.specs.declared.faults.AttachFault.{AttachFault}
 use Rattle.sem_mounts.specs.declared.faults.AttachFault.TheVariants as attach
 use Rattle.hac_top.specs.Attaching.{AttachesStore, LeavesAttached, MayAttach}
 use Rattle.hac_top.specs.Crashes.{IsOfFile, StopsOpening, opening_outcome}
 use Rattle.hac_top.specs.Ends.{IsOpenStatus, IsStoreStatus, is_bad_space, is_disk_fault}
-use Rattle.hac_top.specs.Run.{Ends, EndsSo, IfOpens, Outside, Ran, TakesWithin}
+use Rattle.hac_top.specs.Run.{Ends, EndsSo, IfOpened, IfOpens, Outside, Ran, TakesWithin}
 use Rattle.hac_top.specs.Spaces.{HasAttached, LeavesSpaces, StopsAttaching, attach_status}
 use Rattle.hac_top.specs.declared.status.Status.{Status}
 use Rattle.hac_top.specs.declared.status.Status.TheVariants.{Usage, WriteFault, DiskFault, Memory, BadSpace}
-use Rattle.hac_top.proofs.OpenedLemmas.{Opening, opens-quiet, ran-none, told-none}
+use Rattle.hac_top.proofs.OpenedLemmas.{Opening, opens-quiet, ran-none, told-given, told-none}
 
 -- a run that comes to its store ends otherwise than at its words or at a space
 pub opened-own : (status : Status) → IsOpenStatus status → IsStoreStatus status
@@ -79,7 +79,7 @@ is-unattached files old new status stops = by stops.fault stops.status_is
     by (attach.BadCatalogue line) is = rw is tt
     by attach.Memory is = rw is tt
 
-within-same : (left : Option (List ℕ)) → TakesWithin left left
+pub within-same : (left : Option (List ℕ)) → TakesWithin left left
 within-same None = tt
 within-same (Some bytes) = omega arith
 
@@ -121,28 +121,19 @@ ends-so wanted (BadSpace which line) un = inr (inl refl)
 ends-so wanted Memory un = inr (inr (inr refl))
 ends-so wanted other un = absurd un
 
--- What holds of a run that goes on from a store, once its spaces were attached and given another premise.
+-- what holds of a run under a premise holds of it under more
+pub ran-more : (fresh : Bool) (given : Given) (status : Status) (setting : Setting) (script : List ℕ) (before after : Outside) (settled : Type 0) (image : List ℕ → Type 0) (leaves : (List ℕ → Type 0) → Type 0) (less more : Type 0) → (more → less) →
+    Ran fresh given status setting script before after settled image leaves less → Ran fresh given status setting script before after settled image leaves more
+ran-more fresh given status setting script before after settled image leaves less more leads ran = record { played = ran.played; moments = ran.moments; begun = ran.begun; complete = λ none. ran.complete (leads none) }
+
+-- what holds of a run that goes on from a store, once its spaces were attached and given another premise
 pub ran-given : (fresh : Bool) (tick : ℕ) (status : Status) (before after : Outside) (settled : Type 0) (image : List ℕ → Type 0) (leaves : (List ℕ → Type 0) → Type 0) (less more : Type 0) → (more → less) →
     (old mid new : SpacesSeen) → mid.faults ≡ old.faults → (seen left : Option (List ℕ)) →
     IfSome seen (λ file. IfSome left (λ script. IfOk (opening_outcome fresh (held file)) (λ setting. IfTold mid new tick setting script (λ given. Ran fresh given status setting script before after settled image leaves less)))) →
     IfSome seen (λ file. IfSome left (λ script. IfOk (opening_outcome fresh (held file)) (λ setting. IfTold old new tick setting script (λ given. Ran fresh given status setting script before after settled image leaves more))))
-ran-given fresh tick status before after settled image leaves less more leads old mid new same None left ran = search rules
-ran-given fresh tick status before after settled image leaves less more leads old mid new same (Some file) None ran = search rules
-ran-given fresh tick status before after settled image leaves less more leads old mid new same (Some file) (Some script) ran = by (opening_outcome fresh (held file)) ran
-  where
-    of : (setting : Setting) (o : Option Contents) → IfSome o (λ c. (met : List (Option (List ℕ))) × AreMet mid new (given_by c met tick) setting script × Ran fresh (given_by c met tick) status setting script before after settled image leaves less) →
-        IfSome o (λ c. (met : List (Option (List ℕ))) × AreMet old new (given_by c met tick) setting script × Ran fresh (given_by c met tick) status setting script before after settled image leaves more)
-    of setting None ran = search rules
-    of setting (Some c) (met, are, ran) = (
-      met,
-      record { askable = are.askable; counted = subst (λ (n : ℕ). faults_after n met ≤ new.faults) same are.counted; none = λ quiet. are.none (λ rose. quiet (subst (λ (n : ℕ). Rose n new.faults) same rose)) },
-      record { played = ran.played; moments = ran.moments; begun = ran.begun; complete = λ given. ran.complete (leads given) },
-    )
-
-    by : (outcome : Result Setting Status) → IfOk outcome (λ setting. IfTold mid new tick setting script (λ given. Ran fresh given status setting script before after settled image leaves less)) →
-        IfOk outcome (λ setting. IfTold old new tick setting script (λ given. Ran fresh given status setting script before after settled image leaves more))
-    by (Err wanted) ran = search rules
-    by (Ok setting) ran = of setting new.contents ran
+ran-given fresh tick status before after settled image leaves less more leads old mid new same seen left ran =
+    told-given fresh tick (λ given setting script. Ran fresh given status setting script before after settled image leaves less) (λ given setting script. Ran fresh given status setting script before after settled image leaves more)
+    (λ given setting script. ran-more fresh given status setting script before after settled image leaves less more leads) old mid new same seen left ran
 
 -- a space that couldn't be attached was counted, and no fault was before it
 pub stopped-later : (files : List Space) (old new : SpacesSeen) (status : Status) → StopsAttaching files old new status → old.faults ≤ new.faults
@@ -169,7 +160,7 @@ module _ {D : Type 0} (seen : D → Option (List ℕ)) (image : D → List ℕ �
 
   -- it answers nothing of the script, and a crash leaves what it would have gone on from
   pub ran-unattached : (faultless : Type 0) (status : Status) → IsUnattached status → (faultless → is_bad_space status ≡ true → ⊥) → (asked : Options) (disk : D) (before : Outside) (old new : SpacesSeen) → old.faults ≤ new.faults →
-      IfOpens (Some asked) (seen disk) before.source.left (λ asked setting script. IfTold old new asked.tick setting script (λ given. Ran asked.fresh given status setting script before before
+      IfOpened asked (seen disk) before.source.left (λ setting script. IfTold old new asked.tick setting script (λ given. Ran asked.fresh given status setting script before before
       (IsSettled (seen disk) (image disk)) (image disk) (LeavesOnly moment image_since disk disk) faultless))
   ran-unattached faultless status un good asked disk before old new later = of-file (seen disk) (opens-quiet seen image moment image_since only_now asked.fresh (seen disk) disk disk (untouched disk))
     where
@@ -214,7 +205,7 @@ module _ {D : Type 0} (seen : D → Option (List ℕ)) (image : D → List ℕ �
       IfOpens asked (seen disk) before.source.left (λ asked setting script. IfTold spaces spaces asked.tick setting script (λ given. Ran asked.fresh given Memory setting script before before
       (IsSettled (seen disk) (image disk)) (image disk) (LeavesOnly moment image_since disk disk) (faultless asked)))
   memory-ran faultless None disk before spaces = search rules
-  memory-ran faultless (Some asked) disk before spaces = ran-unattached (faultless asked) Memory tt (λ _ never. cc) asked disk before spaces spaces (omega arith)
+  memory-ran faultless (Some asked) disk before spaces = λ _. ran-unattached (faultless asked) Memory tt (λ _ never. cc) asked disk before spaces spaces (omega arith)
 
 pub memory-spaces : (asked : Option Options) (spaces : SpacesSeen) → IfSome asked (λ asked. LeavesSpaces Memory asked.spaces spaces spaces)
 memory-spaces None spaces = search rules

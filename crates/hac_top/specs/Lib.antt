@@ -2,7 +2,9 @@ pub mod Asking
 pub mod Attaching
 pub mod Crashes
 pub mod Deciding
+pub mod Devices
 pub mod Ends
+pub mod Making
 pub mod TakenLines
 pub mod Replies
 pub mod Run

@@ -1,5 +1,5 @@
 -- What a run promises. Most of it depends on the script, which its source may tell.
-use Rattle.std.specs.Prelude.{◌≡◌, ◌⊎◌, ℕ, ◌+◌, ◌<◌, ◌≤◌, ⊤, Bool, true, false, List, [], ◌++◌, length, take, drop, codes, Option, Some, IfOk}
+use Rattle.std.specs.Prelude.{◌≡◌, ◌⊎◌, ℕ, ◌+◌, ◌<◌, ◌≤◌, ⊤, Bool, true, false, List, [], ◌++◌, length, take, drop, codes, Option, None, Some, Result, IfOk, IfErr, OnOk}
 use Rattle.std.specs.Option.{IfSome}
 use Rattle.std.specs.Io.KnownBytes.{Appends}
 use Rattle.hac_outside.specs.Causes.{Rose, ReportsFault}
@@ -16,7 +16,7 @@ use Rattle.hac_model.specs.declared.states.State.{State}
 use Rattle.hac_store.specs.Held.{held}
 use Rattle.hac_store.specs.Stores.{IsHeldAs, Stands}
 use Rattle.hac_top.specs.Crashes.{Holds, IsTreeAfter, IsTreeOfAnswered, Reopens, opening_outcome}
-use Rattle.hac_top.specs.Ends.{IsFinished, IsOpenStatus, finished_status, is_bad_space, is_disk_fault, is_read_fault, is_write_fault}
+use Rattle.hac_top.specs.Ends.{IsFinished, IsOpenStatus, end_status, finished_status, is_bad_space, is_disk_fault, is_read_fault, is_write_fault}
 use Rattle.hac_top.specs.Replies.{WritesReplies}
 use Rattle.hac_top.specs.Asking.{HaveAsked, given_by}
 use Rattle.sem_mounts.specs.Seen.{SpacesSeen}
@@ -34,7 +34,7 @@ outside source sink = record { source = source; sink = sink }
 
 -- what is written where the words of the program are none that it takes
 abbrev pub usage_line : List ℕ
-usage_line = ended (codes "usage: hac [--new] [--tick N] STORE [NAME=FILE]...")
+usage_line = ended (codes "usage: hac [--new] [--tick N] [--make NUMBER] STORE [NAME=FILE]...")
 
 -- known bytes grow by some beginning of these bytes
 abbrev pub AppendsSome : Option (List ℕ) → Option (List ℕ) → List ℕ → Type 0
@@ -170,6 +170,17 @@ pub record PlaysStore {D : Type 0} (seen : D → Option (List ℕ)) (image : D �
   pub names : attached new ≡ attached old
   pub reported : ReportsFault (is_disk_fault status) (faults old) (faults new)
 
+-- The same of the player that plays it: it has gone on to what the script left, unless it stopped before its end.
+pub record PlaysOn {D : Type 0} (seen : D → Option (List ℕ)) (image : D → List ℕ → Type 0)
+    (moment : D → ℕ) (image_since : D → ℕ → List ℕ → Type 0)
+    (attached : D → Option (List (List ℕ × Bool))) (faults : D → ℕ) (old new : D)
+    (tick : ℕ) (setting : Setting) (before after : Outside) (spaces left : SpacesSeen)
+    (result : Result Bool Status) (kept : Setting) : Type 0 where
+  pub plays : PlaysStore seen image moment image_since attached faults old new tick setting before after spaces left (end_status result)
+  pub leaves : OnOk result (IfSome spaces.contents (λ contents. IfSome before.source.left (λ bytes.
+      kept ≡ left_by setting (play (given_by contents plays.met tick) setting bytes))))
+  pub stops : IfErr result (λ status. IsFinished status → ⊥)
+
 -- The outcome of a run that goes on from a store. Where nothing was pending on the disk as it began, a crash at each
 -- moment leaves that tree after some of the events of the script; once it has begun to take the script, a crash leaves
 -- a store. Without a fault the script is played, unless memory runs out.
@@ -183,12 +194,16 @@ pub record Ran (fresh : Bool) (given : Given) (status : Status) (setting : Setti
       Holds (IsTreeOf given setting script) c
   pub complete : faultless → Completes status script
 
--- the words, the file and the script, if they are known, and what the run then goes on from
+-- the file and the script, if they are known, and what the run then goes on from
+abbrev pub IfOpened : Options → Option (List ℕ) → Option (List ℕ) → (Setting → List ℕ → Type 0) → Type 0
+IfOpened asked seen left P =
+    IfSome seen (λ file. IfSome left (λ script.
+    IfOk (opening_outcome asked.fresh (held file)) (λ setting. P setting script)))
+
+-- the same of words, if they are known, that ask for no drawn script
 abbrev pub IfOpens : Option Options → Option (List ℕ) → Option (List ℕ) →
     (Options → Setting → List ℕ → Type 0) → Type 0
-IfOpens words seen left P =
-    IfSome words (λ asked. IfSome seen (λ file. IfSome left (λ script.
-    IfOk (opening_outcome asked.fresh (held file)) (λ setting. P asked setting script))))
+IfOpens words seen left P = IfSome words (λ asked. asked.make ≡ None → IfOpened asked seen left (P asked))
 
 -- no call of the source, the sink or the disk failed, given the faults of the disk
 abbrev pub IsFaultless : Outside → Outside → ℕ → ℕ → Type 0

@@ -113,8 +113,12 @@ impl Player {
         tick(&mut self.store, disk, self.tick)
     }
 
-    // Writes a reply, and flushes it.
-    fn write_reply<K: Sink>(&mut self, output: &mut K, reply: Reply) -> Result<(), Status>
+    /// Writes a reply, and flushes it.
+    pub(crate) fn write_reply<K: Sink>(
+        &mut self,
+        output: &mut K,
+        reply: Reply,
+    ) -> Result<(), Status>
         ensures store { self.new.store ≡ self.old.store }
         ensures tick { self.new.tick ≡ self.old.tick }
         ensures refused { OnOk result (self.new.refused ≡ (self.old.refused || is_refused reply)) }

@@ -13,6 +13,7 @@ use std::alloc::Global;
 
 // The factor and the increment of the linear congruential generator of Knuth's MMIX.
 const FACTOR: u64 = 6_364_136_223_846_793_005;
+
 const INCREMENT: u64 = 1_442_695_040_888_963_407;
 
 // How many lines are drawn.
@@ -70,12 +71,7 @@ fn semantic_line(alloc: Global, number: u64) -> Result<String, Memory>
 }
 
 // Appends so many lines, one drawn behind the other.
-fn push_drawn(
-    alloc: Global,
-    script: &mut Vec<u8>,
-    count: u64,
-    number: u64,
-) -> Result<(), Memory>
+fn push_drawn(alloc: Global, script: &mut Vec<u8>, count: u64, number: u64) -> Result<(), Memory>
     ensures { OnOk result (script.new.items ≡
         script.old.items ++ flat_map ended (drawn_lines count number)) }
 {

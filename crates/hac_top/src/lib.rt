@@ -6,8 +6,11 @@
 mod answering;
 mod attaching;
 mod deciding;
+mod devices;
 mod generating;
+mod making;
 mod opening;
+mod playing;
 mod running;
 mod status;
 mod storing;

@@ -1,41 +1,41 @@
-//! The run: the spaces are attached, the store is opened, the script is taken line by line, and
-//! each line is answered before the next is taken.
+//! The run: the spaces are attached, the store is opened, and the script that is read, or one that
+//! is drawn, is played on it.
 ghost use Rattle.std.specs.Prelude.{◌≡◌, ◌⊎◌, [], true, false, IfErr, IfSome, None, Some, map};
 ghost use Rattle.std.specs.Prelude.{string_bytes};
 ghost use Rattle.std.specs.Io.KnownBytes.{Appends};
 ghost use Rattle.hac_disk.specs.Images.{IsQuiet, LeavesOnly};
 ghost use Rattle.hac_disk.specs.Contents.{IsSettled};
+ghost use Rattle.hac_model.specs.Run.Play.{left_by, play};
 ghost use Rattle.hac_model.specs.Script.CommandLine.{options};
 ghost use Rattle.hac_outside.specs.Causes.{ReportsFault};
 ghost use Rattle.hac_store.specs.Held.{held};
-ghost use Rattle.hac_store.specs.Stores.{Bears};
 ghost use Rattle.hac_top.specs.Asking.{IfTold, StayAttached};
 ghost use Rattle.hac_top.specs.Attaching.{LeavesAttached};
 ghost use Rattle.hac_top.specs.Crashes.{IsOfFile, opening_outcome};
-ghost use Rattle.hac_top.specs.Ends.{IsStoreStatus, end_status, is_bad_space, is_disk_fault};
+ghost use Rattle.hac_top.specs.Ends.{IsStoreStatus, is_bad_space, is_disk_fault};
 ghost use Rattle.hac_top.specs.Ends.{is_write_fault};
-ghost use Rattle.hac_top.specs.Run.{AppendsSome, Ends, EndsSo, IfOpens, IsFaultless, PlaysStore};
+ghost use Rattle.hac_top.specs.Making.{IfMakes, Makes, Tells};
+ghost use Rattle.hac_top.specs.Run.{AppendsSome, Ends, EndsSo, IfOpened, IfOpens, IsFaultless};
 ghost use Rattle.hac_top.specs.Run.{Ran, RefusesWords, outside, usage_line};
 ghost use Rattle.hac_top.specs.Spaces.{CanAttach, LeavesSpaces};
 ghost use Rattle.hac_top.specs.Words.{asked_of};
 
-use crate::answering::{Player, write_now};
+use crate::answering::write_now;
 use crate::attaching::attach_spaces;
+use crate::making::make_store;
 use crate::opening::open_store;
+use crate::playing::play_store;
 use crate::status::Status;
-use crate::taking::take_line;
 use crate::words::{Options, WordsFault, read_words};
 use hac_disk::Disk;
 use hac_outside::{Sink, Source};
-use hac_store::Store;
 use sem_mounts::Spaces;
-use shell_lang::Reader;
 use std::alloc::Global;
 
 /// Attaches the spaces that the words name, opens the store, plays the script that the source
 /// gives, and writes the reply to each command to the sink.
 ///
-/// `words` are those of the program behind its own name: `[--new] [--tick N] STORE
+/// `words` are those of the program behind its own name: `[--new] [--tick N] [--make NUMBER] STORE
 /// [NAME=FILE]...`. Each FILE is read first, as the catalogue of the space NAME. Then the disk is
 /// bound to the file STORE, which is made where it is missing and `--new` is given. The source is
 /// read in pieces, and no line is carried out before the reply to the line before it was written
@@ -43,6 +43,9 @@ use std::alloc::Global;
 /// to N index steps follow. A `put` is carried out with the bytes that follow its line. A command
 /// asks the spaces what it has to know of their documents, and is refused where one of them isn't
 /// attached or fails.
+///
+/// With `--make` the script is one that is drawn from NUMBER. Nothing of the source is taken then,
+/// and of the replies only that to `counts` is written, which is asked behind the script.
 pub fn run<S: Source, K: Sink, D: Disk, P: Spaces>(
     alloc: Global,
     words: &[String],
@@ -84,6 +87,21 @@ pub fn run<S: Source, K: Sink, D: Disk, P: Spaces>(
         (outside (S.seen input.new) (K.seen output.new))
         (D.faults disk.old) (D.faults disk.new)))) }
 
+    // Where the script is to be drawn, nothing is read, and the same is true of that script, which
+    // is played from a source and to a sink of its own. Then the reply to `counts` is written.
+    ensures made { IfMakes (options (map string_bytes words.now)) (λ asked number. Makes number
+        (outside (S.seen input.old) (K.seen output.old))
+        (outside (S.seen input.new) (K.seen output.new))
+        (λ played own after. IfOpened asked (D.seen disk.old) own.source.left (λ setting script.
+        IfTold (P.seen spaces.old) (P.seen spaces.new) asked.tick setting script
+        (λ given. Ran asked.fresh given played setting script own after
+        (IsSettled (D.seen disk.old) (D.image disk.old)) (D.image disk.new)
+        (LeavesOnly D.moment D.image_since disk.old disk.new)
+        (CanAttach asked.spaces (P.seen spaces.old) (P.seen spaces.new) ×
+        IsFaultless own after (D.faults disk.old) (D.faults disk.new))
+        × Tells played result (left_by setting (play given setting script)).state
+        (K.seen output.old) (K.seen output.new))))) }
+
     // Where the file holds no store, or one though a new one was asked for, it says so and does
     // nothing else.
     ensures unopened { IfSome (options (map string_bytes words.now))
@@ -116,7 +134,7 @@ pub fn run<S: Source, K: Sink, D: Disk, P: Spaces>(
     }
 }
 
-// Opens the store, and plays the script on it.
+// Opens the store, and plays the script on it: that of the source, or one that is drawn.
 fn run_store<S: Source, K: Sink, D: Disk, P: Spaces>(
     alloc: Global,
     options: &Options<'_>,
@@ -138,6 +156,17 @@ fn run_store<S: Source, K: Sink, D: Disk, P: Spaces>(
         (IsFaultless (outside (S.seen input.old) (K.seen output.old))
         (outside (S.seen input.new) (K.seen output.new))
         (D.faults disk.old) (D.faults disk.new)))) }
+    ensures made { IfMakes (Some (asked_of options.now)) (λ asked number. Makes number
+        (outside (S.seen input.old) (K.seen output.old))
+        (outside (S.seen input.new) (K.seen output.new))
+        (λ played own after. IfOpened asked (D.seen disk.old) own.source.left (λ setting script.
+        IfTold (P.seen spaces.old) (P.seen spaces.new) asked.tick setting script
+        (λ given. Ran asked.fresh given played setting script own after
+        (IsSettled (D.seen disk.old) (D.image disk.old)) (D.image disk.new)
+        (LeavesOnly D.moment D.image_since disk.old disk.new)
+        (IsFaultless own after (D.faults disk.old) (D.faults disk.new))
+        × Tells played result (left_by setting (play given setting script)).state
+        (K.seen output.old) (K.seen output.new))))) }
     ensures spaces { StayAttached (P.seen spaces.old) (P.seen spaces.new) }
     ensures unopened { IfSome (D.seen disk.old) (λ file. IfErr
         (opening_outcome options.now.fresh (held file))
@@ -154,7 +183,10 @@ fn run_store<S: Source, K: Sink, D: Disk, P: Spaces>(
         (D.faults disk.new) }
 {
     match open_store(alloc, options, disk) {
-        Ok(store) => play_store(alloc, store, options.tick, input, output, disk, spaces),
+        Ok(store) => match options.make {
+            None => play_store(alloc, store, options.tick, input, output, disk, spaces),
+            Some(number) => make_store(alloc, store, options.tick, number, output, disk, spaces),
+        },
         Err(status) => status,
     }
 }
@@ -170,76 +202,9 @@ fn write_usage<K: Sink>(output: &mut K) -> Status
 {
     match write_now(
         output,
-        b"usage: hac [--new] [--tick N] STORE [NAME=FILE]...\n",
+        b"usage: hac [--new] [--tick N] [--make NUMBER] STORE [NAME=FILE]...\n",
     ) {
         Ok(()) => Status::Usage,
         Err(_) => Status::WriteFault,
-    }
-}
-
-// Plays the script on a store that was opened.
-fn play_store<S: Source, K: Sink, D: Disk, P: Spaces>(
-    alloc: Global,
-    store: Store,
-    tick: u64,
-    input: &mut S,
-    output: &mut K,
-    disk: &mut D,
-    spaces: &mut P,
-) -> Status
-    requires source { (S.seen input.old).ended ≡ false }
-    requires intact { store.broken ≡ false }
-    requires place { Bears (D.seen disk.old) store }
-    ensures { PlaysStore D.seen D.image D.moment D.image_since D.attached D.faults disk.old disk.new
-        tick store.setting (outside (S.seen input.old) (K.seen output.old))
-        (outside (S.seen input.new) (K.seen output.new)) (P.seen spaces.old) (P.seen spaces.new)
-        result }
-{
-    let mut player = Player {
-        alloc,
-        store,
-        tick,
-        refused: false,
-    };
-    let played = play_script(alloc, &mut player, input, output, disk, spaces);
-    drop(player);
-    end_status(played)
-}
-
-// Plays the script to its end, and says whether some command was refused.
-fn play_script<S: Source, K: Sink, D: Disk, P: Spaces>(
-    alloc: Global,
-    player: &mut Player,
-    input: &mut S,
-    output: &mut K,
-    disk: &mut D,
-    spaces: &mut P,
-) -> Result<bool, Status>
-    requires source { (S.seen input.old).ended ≡ false }
-    requires begun { player.old.refused ≡ false }
-    requires intact { player.old.store.broken ≡ false }
-    requires place { Bears (D.seen disk.old) player.old.store }
-    ensures { PlaysStore D.seen D.image D.moment D.image_since D.attached D.faults disk.old disk.new
-        player.old.tick player.old.store.setting (outside (S.seen input.old) (K.seen output.old))
-        (outside (S.seen input.new) (K.seen output.new)) (P.seen spaces.old) (P.seen spaces.new)
-        (end_status result) }
-{
-    let mut reader = Reader::new(alloc)?;
-    'lines: loop {
-        match take_line(&mut reader, input)? {
-            Some(line) => player.answer(output, disk, spaces, line)?,
-            None => return Ok(player.refused),
-        }
-    }
-}
-
-// The status of a script that was played.
-fn end_status(played: Result<bool, Status>) -> Status
-    ensures { result ≡ end_status played }
-{
-    match played {
-        Ok(false) => Status::Done,
-        Ok(true) => Status::SomeRefused,
-        Err(status) => status,
     }
 }

@@ -46,7 +46,7 @@ fn pieces_and_faults_leave_a_prefix(rt: HostRuntime) -> Result<(), Fail> {
 #[test]
 fn words_are_refused(rt: HostRuntime) -> Result<(), Fail> {
     let alloc = rt.alloc();
-    let usage: &[u8] = b"usage: hac [--new] [--tick N] STORE [NAME=FILE]...\n";
+    let usage: &[u8] = b"usage: hac [--new] [--tick N] [--make NUMBER] STORE [NAME=FILE]...\n";
     let rows: [(u64, &[u64], Status, &[u8]); 4] = [
         (ROOM, &[], Status::Usage, usage),
         (4, &[], Status::WriteFault, b"usag"),

@@ -37,8 +37,8 @@ pub number-digits : (most : ℕ) (word : List ℕ) → 0 < most → is_number_wi
     → (list_all is_ascii_digit word ≡ true) × (length word ≤ most)
 number-digits most word some h =
     elim (bytes_eq word (codes "0")) as (λ b. bytes_eq word (codes "0") ≡ b
-        → (b || (nat_le 1 (length word) && nat_le (length word) most && list_all is_ascii_digit word && not (slice_index word 0 == 48))) ≡ true
-        → (list_all is_ascii_digit word ≡ true) × (length word ≤ most)) [
+    → (b || (nat_le 1 (length word) && nat_le (length word) most && list_all is_ascii_digit word && not (slice_index word 0 == 48))) ≡ true
+    → (list_all is_ascii_digit word ≡ true) × (length word ≤ most)) [
       | true ↦ (λ zero_word _.
           let is : word ≡ codes "0" = (bytes_eq-Decides word (codes "0")).0 zero_word in
           subst (λ (w : List ℕ). (list_all is_ascii_digit w ≡ true) × (length w ≤ most)) (sym is) (refl, omega (arith, some)))

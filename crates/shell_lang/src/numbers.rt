@@ -14,6 +14,7 @@ use std::alloc::Global;
 
 // How many digits the numbers of lines have at most, and those from which scripts are drawn.
 const NUMBER_DIGITS: usize = 10;
+
 const SEED_DIGITS: usize = 20;
 
 /// `tick N`, from what follows `tick`.
@@ -91,7 +92,9 @@ fn number(digits: &[u8]) -> Option<u64>
 {
     let mut number = 0_u64;
     'digits: for digit in digits {
-        number = number.checked_mul(10)?.checked_add(u64::from(*digit - b'0'))?;
+        number = number
+            .checked_mul(10)?
+            .checked_add(u64::from(*digit - b'0'))?;
     }
     Some(number)
 }

@@ -7,6 +7,7 @@ use Rattle.hac_top.specs.Run.{IsFaultless, outside}
 use Rattle.hac_top.specs.Spaces.{CanAttach, HasAttached, StopsAttaching}
 use Rattle.hac_top.specs.Words.{asked_of, spaces_asked}
 use Rattle.hac_top.proofs.AttachLemmas.{asked-differ, not-bad}
+use Rattle.hac_top.proofs.MakingLemmas.{made-given, made-unattached, memory-made}
 use Rattle.hac_top.proofs.UnattachedLemmas.{is-unattached, memory-attached, memory-quiet, memory-ran, memory-spaces, own-good, own-spaces, ran-given, ran-unattached, stopped-later, stopped-spaces, told-good, unattached-disk, unattached-ends, unattached-file, unattached-names, unattached-quiet, unattached-usage}
 use Rattle.hac_top.proofs.running.run.Goals as goal
 
@@ -68,8 +69,8 @@ returns-in-Ok-attach_spaces-clause-ran g c =
     let old = c.args.disk.now in
     let new = c.run_store.new.disk in
     rw c.in-Ok.ensures.read
-    (ran-given c.in-Ok.options.fresh c.in-Ok.options.tick c.run_store.result before after (IsSettled (disk.seen old) (disk.image old)) (disk.image new) (LeavesOnly disk.moment disk.image_since old new) faultless (can × faultless) (λ given. given.1)
-    (seen c.args.spaces.now) (seen c.attach_spaces.new.spaces) (seen c.run_store.new.spaces) has.faults (disk.seen old) before.source.left c.run_store.ensures.ran)
+    (λ reads. ran-given c.in-Ok.options.fresh c.in-Ok.options.tick c.run_store.result before after (IsSettled (disk.seen old) (disk.image old)) (disk.image new) (LeavesOnly disk.moment disk.image_since old new) faultless (can × faultless) (λ given. given.1)
+    (seen c.args.spaces.now) (seen c.attach_spaces.new.spaces) (seen c.run_store.new.spaces) has.faults (disk.seen old) before.source.left (c.run_store.ensures.ran reads))
 
 pub returns-in-Ok-attach_spaces-clause-unopened : goal.returns-in-Ok-attach_spaces-clause-unopened
 returns-in-Ok-attach_spaces-clause-unopened g c = rw c.in-Ok.ensures.read c.run_store.ensures.unopened
@@ -106,7 +107,7 @@ returns-clause-ran g c =
     let faults = disk.faults c.args.disk.now in
     let stops : StopsAttaching files old new c.in-Err.status = rw c.deref.ensures.value at c.in-Err.ensures.err in
     rw c.in-Ok.ensures.read
-    (ran-unattached disk.seen disk.image disk.moment disk.image_since disk.attached disk.faults g.met.D.Disk.only_now g.met.D.Disk.counts_now (CanAttach files old new × IsFaultless before before faults faults)
+    (λ _. ran-unattached disk.seen disk.image disk.moment disk.image_since disk.attached disk.faults g.met.D.Disk.only_now g.met.D.Disk.counts_now (CanAttach files old new × IsFaultless before before faults faults)
     c.in-Err.status (is-unattached files old new c.in-Err.status stops) (λ given bad. not-bad files old new c.in-Err.status stops given.0 bad) (asked_of c.in-Ok.options) c.args.disk.now before old new (stopped-later files old new c.in-Err.status stops))
 
 pub returns-clause-unopened : goal.returns-clause-unopened
@@ -138,3 +139,42 @@ pub returns-clause-disk_faults : goal.returns-clause-disk_faults
 returns-clause-disk_faults g c =
     let seen = g.P.Spaces.seen in
     unattached-disk c.in-Err.status (g.D.Disk.faults c.args.disk.now) (is-unattached _ (seen c.args.spaces.now) (seen c.attach_spaces.new.spaces) c.in-Err.status c.in-Err.ensures.err)
+
+-- the same of a script that is made
+pub returns-in-Err-Memory-clause-made : goal.returns-in-Err-Memory-clause-made
+returns-in-Err-Memory-clause-made g c =
+    let disk = g.D.Disk in
+    let faults = disk.faults c.args.disk.now in
+    let spaces = g.P.Spaces.seen c.args.spaces.now in
+    memory-made disk.seen disk.image disk.moment disk.image_since disk.attached disk.faults g.met.D.Disk.only_now g.met.D.Disk.counts_now
+    (λ asked own own_after. CanAttach asked.spaces spaces spaces × IsFaultless own own_after faults faults) (options (map string_bytes c.args.words.now)) c.args.disk.now
+    (outside (g.S.Source.seen c.args.input.now) (g.K.Sink.seen c.args.output.now)) spaces
+
+pub returns-in-Ok-attach_spaces-clause-made : goal.returns-in-Ok-attach_spaces-clause-made
+returns-in-Ok-attach_spaces-clause-made g c =
+    let disk = g.D.Disk in
+    let seen = g.P.Spaces.seen in
+    let files = spaces_asked c.in-Ok.options.spaces.items in
+    let has : HasAttached files (seen c.args.spaces.now) (seen c.attach_spaces.new.spaces) = rw c.deref.ensures.value at c.in-Ok-attach_spaces.ensures.ok in
+    let was = disk.faults c.args.disk.now in
+    let now = disk.faults c.run_store.new.disk in
+    rw c.in-Ok.ensures.read
+    (made-given disk.seen disk.image disk.moment disk.image_since disk.attached disk.faults g.met.D.Disk.only_now g.met.D.Disk.counts_now (asked_of c.in-Ok.options) c.args.disk.now c.run_store.new.disk
+    (outside (g.S.Source.seen c.args.input.now) (g.K.Sink.seen c.args.output.now)) (outside (g.S.Source.seen c.run_store.new.input) (g.K.Sink.seen c.run_store.new.output))
+    (seen c.args.spaces.now) (seen c.attach_spaces.new.spaces) (seen c.run_store.new.spaces) c.run_store.result (λ own own_after. IsFaultless own own_after was now)
+    (λ own own_after. CanAttach files (seen c.args.spaces.now) (seen c.run_store.new.spaces) × IsFaultless own own_after was now) (λ own own_after given. given.1) has.faults c.in-Ok.options.make c.run_store.ensures.made)
+
+pub returns-clause-made : goal.returns-clause-made
+returns-clause-made g c =
+    let disk = g.D.Disk in
+    let seen = g.P.Spaces.seen in
+    let old = seen c.args.spaces.now in
+    let new = seen c.attach_spaces.new.spaces in
+    let files = spaces_asked c.in-Ok.options.spaces.items in
+    let faults = disk.faults c.args.disk.now in
+    let stops : StopsAttaching files old new c.in-Err.status = rw c.deref.ensures.value at c.in-Err.ensures.err in
+    rw c.in-Ok.ensures.read
+    (made-unattached disk.seen disk.image disk.moment disk.image_since disk.attached disk.faults g.met.D.Disk.only_now g.met.D.Disk.counts_now
+    (λ own own_after. CanAttach files old new × IsFaultless own own_after faults faults) c.in-Err.status (is-unattached files old new c.in-Err.status stops)
+    (λ own given bad. not-bad files old new c.in-Err.status stops given.0 bad) (asked_of c.in-Ok.options) c.args.disk.now (outside (g.S.Source.seen c.args.input.now) (g.K.Sink.seen c.args.output.now)) old new
+    (stopped-later files old new c.in-Err.status stops) c.in-Ok.options.make)

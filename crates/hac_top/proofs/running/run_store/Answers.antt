@@ -1,25 +1,27 @@
-use Rattle.std.proofs.Common.{refl, arith}
+use Rattle.std.proofs.Common.{◌∙◌, ap, refl, sym, arith, rules, true≢false}
+use Rattle.std.specs.Prelude.{is_some}
 use Rattle.hac_disk.specs.Contents.{IsSettled}
 use Rattle.hac_top.specs.Run.{outside}
 use Rattle.hac_top.specs.Words.{asked_of}
+use Rattle.hac_top.proofs.MakingLemmas.{made-ends, made-unopened, makes-opened}
 use Rattle.hac_top.proofs.OpenedLemmas.{ran-opened, ran-unopened}
 use Rattle.hac_top.proofs.UnattachedLemmas.{opened-attached, opened-own, unopened-attached, unopened-own}
 use Rattle.hac_top.proofs.running.run_store.Goals as goal
 
-pub returns-in-Ok-clause-own : goal.returns-in-Ok-clause-own
-returns-in-Ok-clause-own g c = opened-own c.play_store.result c.play_store.ensures.opened
+pub returns-in-None-clause-own : goal.returns-in-None-clause-own
+returns-in-None-clause-own g c = opened-own c.play_store.result c.play_store.ensures.opened
 
-pub returns-in-Ok-clause-ran : goal.returns-in-Ok-clause-ran
-returns-in-Ok-clause-ran g c =
+pub returns-in-None-clause-ran : goal.returns-in-None-clause-ran
+returns-in-None-clause-ran g c =
     let disk = g.D.Disk in
     let old = c.args.disk.now in
     let before = outside (g.S.Source.seen c.args.input.now) (g.K.Sink.seen c.args.output.now) in
     let after = outside (g.S.Source.seen c.play_store.new.input) (g.K.Sink.seen c.play_store.new.output) in
-    ran-opened disk.seen disk.image disk.moment disk.image_since disk.attached disk.faults g.met.D.Disk.counts_now c.args.options.now.fresh c.args.options.now.tick (IsSettled (disk.seen old) (disk.image old)) old c.open_store.new.disk c.play_store.new.disk c.in-Ok.store.setting before after
+    λ _. ran-opened disk.seen disk.image disk.moment disk.image_since disk.attached disk.faults g.met.D.Disk.counts_now c.args.options.now.fresh c.args.options.now.tick (IsSettled (disk.seen old) (disk.image old)) old c.open_store.new.disk c.play_store.new.disk c.in-Ok.store.setting before after
     (g.P.Spaces.seen c.args.spaces.now) (g.P.Spaces.seen c.play_store.new.spaces) c.play_store.result c.play_store.ensures c.in-Ok.ensures.faults (disk.seen old) c.in-Ok.ensures.opened c.in-Ok.ensures.stands c.in-Ok.ensures.any_moment
 
-pub returns-in-Ok-clause-attached : goal.returns-in-Ok-clause-attached
-returns-in-Ok-clause-attached g c =
+pub returns-in-None-clause-attached : goal.returns-in-None-clause-attached
+returns-in-None-clause-attached g c =
     let names = g.D.Disk.attached in
     rw c.play_store.ensures.names
     (opened-attached c.play_store.result (names c.args.disk.now) (asked_of c.args.options.now) (names c.open_store.new.disk) c.play_store.ensures.opened (c.in-Ok.ensures.attaches (λ never. cc)))
@@ -32,7 +34,7 @@ returns-in-Err-clause-ran g c =
     let disk = g.D.Disk in
     let old = c.args.disk.now in
     let before = outside (g.S.Source.seen c.args.input.now) (g.K.Sink.seen c.args.output.now) in
-    ran-unopened disk.seen disk.image disk.moment disk.image_since disk.attached disk.faults g.met.D.Disk.counts_now c.args.options.now.fresh c.args.options.now.tick (IsSettled (disk.seen old) (disk.image old)) old c.open_store.new.disk before (g.P.Spaces.seen c.args.spaces.now) c.in-Err.status
+    λ _. ran-unopened disk.seen disk.image disk.moment disk.image_since disk.attached disk.faults g.met.D.Disk.counts_now c.args.options.now.fresh c.args.options.now.tick (IsSettled (disk.seen old) (disk.image old)) old c.open_store.new.disk before (g.P.Spaces.seen c.args.spaces.now) c.in-Err.status
     c.in-Err.ensures.stops c.in-Err.ensures.faults (disk.seen old) c.in-Err.ensures.opened c.in-Err.ensures.any_moment
 
 pub returns-in-Err-clause-attached : goal.returns-in-Err-clause-attached
@@ -41,8 +43,46 @@ returns-in-Err-clause-attached g c =
     unopened-attached c.in-Err.status (names c.args.disk.now) (asked_of c.args.options.now) (names c.open_store.new.disk) c.in-Err.ensures.stops c.in-Err.ensures.attached
     (λ other. c.in-Err.ensures.attaches (λ same. other (cc)))
 
-pub returns-in-Ok-clause-spaces : goal.returns-in-Ok-clause-spaces
-returns-in-Ok-clause-spaces g c = c.play_store.ensures.asked.stay
+pub returns-in-None-clause-spaces : goal.returns-in-None-clause-spaces
+returns-in-None-clause-spaces g c = c.play_store.ensures.asked.stay
 
 pub returns-in-Err-clause-spaces : goal.returns-in-Err-clause-spaces
 returns-in-Err-clause-spaces g c = record { attached = refl; contents = refl; later = omega arith }
+
+-- a script is made
+pub returns-in-Some-clause-own : goal.returns-in-Some-clause-own
+returns-in-Some-clause-own g c = opened-own c.make_store.result c.make_store.ensures.opened
+
+pub returns-in-Some-clause-ran : goal.returns-in-Some-clause-ran
+returns-in-Some-clause-ran g c = λ reads. absurd (true≢false (ap is_some (sym c.in-Some.is ∙ reads)))
+
+pub returns-in-Some-clause-made : goal.returns-in-Some-clause-made
+returns-in-Some-clause-made g c =
+    let disk = g.D.Disk in
+    let source = g.S.Source.seen c.args.input.now in
+    rw c.in-Some.is
+    (makes-opened disk.seen disk.image disk.moment disk.image_since disk.attached disk.faults g.met.D.Disk.counts_now (asked_of c.args.options.now) c.args.disk.now c.open_store.new.disk c.make_store.new.disk c.in-Ok.store.setting
+    (outside source (g.K.Sink.seen c.args.output.now)) (outside source (g.K.Sink.seen c.make_store.new.output)) (g.P.Spaces.seen c.args.spaces.now) (g.P.Spaces.seen c.make_store.new.spaces) c.make_store.result c.in-Some.number
+    c.make_store.ensures c.in-Ok.ensures.faults refl c.in-Ok.ensures.opened c.in-Ok.ensures.stands c.in-Ok.ensures.any_moment)
+
+pub returns-in-Some-clause-attached : goal.returns-in-Some-clause-attached
+returns-in-Some-clause-attached g c =
+    let names = g.D.Disk.attached in
+    rw c.make_store.ensures.plays.names
+    (opened-attached c.make_store.result (names c.args.disk.now) (asked_of c.args.options.now) (names c.open_store.new.disk) c.make_store.ensures.opened (c.in-Ok.ensures.attaches (λ never. cc)))
+
+pub returns-in-Some-clause-spaces : goal.returns-in-Some-clause-spaces
+returns-in-Some-clause-spaces g c = c.make_store.ensures.plays.asked.stay
+
+pub returns-in-Some-clause-ends : goal.returns-in-Some-clause-ends
+returns-in-Some-clause-ends g c = made-ends (outside (g.S.Source.seen c.args.input.now) (g.K.Sink.seen c.args.output.now)) (g.K.Sink.seen c.make_store.new.output) c.make_store.ensures
+
+pub returns-in-None-clause-made : goal.returns-in-None-clause-made
+returns-in-None-clause-made g c = rw c.in-None.is (search rules)
+
+-- no store was opened
+pub returns-in-Err-clause-made : goal.returns-in-Err-clause-made
+returns-in-Err-clause-made g c =
+    let disk = g.D.Disk in
+    made-unopened disk.seen disk.image disk.moment disk.image_since disk.attached disk.faults g.met.D.Disk.only_now g.met.D.Disk.counts_now (asked_of c.args.options.now) c.args.disk.now c.open_store.new.disk
+    (outside (g.S.Source.seen c.args.input.now) (g.K.Sink.seen c.args.output.now)) (g.P.Spaces.seen c.args.spaces.now) c.in-Err.status c.in-Err.ensures.stops c.in-Err.ensures.faults c.in-Err.ensures.opened c.in-Err.ensures.any_moment c.args.options.now.make

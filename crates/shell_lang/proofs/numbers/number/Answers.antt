@@ -24,5 +24,5 @@ digits-preserved c =
 pub returns : goal.returns
 returns c =
     let whole : c.digits.number ≡ digits_value 10 c.args.digits.now =
-        c.digits.invariant.0 ∙ ap (digits_value 10) (take_all c.digits.digit-index c.args.digits.now (omega (arith, c.digits-test.false))) in
+    c.digits.invariant.0 ∙ ap (digits_value 10) (take_all c.digits.digit-index c.args.digits.now (omega (arith, c.digits-test.false))) in
     ap (λ (n : ℕ). Some n) whole ∙ some-fits (digits_value 10 c.args.digits.now) (omega (arith, sym whole, c.digits.invariant.1))

@@ -3,7 +3,7 @@ use Rattle.hac_model.specs.declared.limits.TheConstants.{SCRIPT_LIMIT}
 use Rattle.shell_lang.specs.Reading.{given}
 use Rattle.hac_top.specs.Run.{outside}
 use Rattle.hac_top.proofs.GoesOn.{RunsOn}
-use Rattle.hac_top.proofs.running.play_script.Given as goal
+use Rattle.hac_top.proofs.playing.play_script.Given as goal
 
 abbrev pub invariant-lines : goal.invariant-lines
 invariant-lines g l =

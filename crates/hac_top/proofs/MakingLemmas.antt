@@ -1,0 +1,353 @@
+-- A script that is drawn from a number is played, and what it left is told.
+use Rattle.std.proofs.Common.{◌≡◌, ◌∙◌, ℕ, Bool, true, false, true≢false, ◌≤◌, List, Option, None, Some, refl, sym, ap, subst, arith, rules}
+use Rattle.std.specs.Prelude.{Result, Ok, Err, IfOk, IfErr, OnOk, is_some}
+use Rattle.std.specs.Option.{IfSome}
+use Rattle.hac_outside.specs.Causes.{ReportsFault, Rose}
+use Rattle.hac_outside.specs.Seen.{SinkSeen}
+use Rattle.hac_model.specs.Run.Play.{Setting, left_by, play}
+use Rattle.hac_model.specs.Script.CommandLine.{Options}
+use Rattle.hac_model.specs.Script.Generator.{generated}
+use Rattle.hac_model.specs.declared.states.State.{State}
+use Rattle.hac_store.specs.Held.{held}
+use Rattle.sem_mounts.specs.Seen.{Contents, SpacesSeen}
+use Rattle.hac_top.specs.Asking.{IfTold, given_by}
+use Rattle.hac_top.specs.Crashes.{IsOpened, StopsOpening, opening_outcome}
+use Rattle.hac_top.specs.Devices.{ScriptLeft, seen_of_nothing, seen_of_script}
+use Rattle.hac_top.specs.Ends.{IsFinished, IsOpenStatus, end_status, finished_status, is_bad_space, is_disk_fault, is_read_fault, is_write_fault}
+use Rattle.hac_top.specs.Making.{IfMakes, Makes, MakesStore, PlaysMade, Tells, TellsEnd, TellsLeft, counts_text}
+use Rattle.hac_top.specs.Replies.{StopsWriting, WritesAll}
+use Rattle.hac_top.specs.Run.{Ends, IfOpened, IsFaultless, Outside, PlaysOn, Ran, outside}
+use Rattle.hac_top.specs.declared.status.Status.{Status}
+use Rattle.hac_top.specs.declared.status.Status.TheVariants.{Done, SomeRefused, WriteFault, Memory}
+use Rattle.hac_disk.specs.Contents.{IsSettled}
+use Rattle.hac_disk.specs.Images.{LeavesOnly}
+use Rattle.hac_store.specs.Stores.{Bears, Seen, Stands}
+use Rattle.hac_top.proofs.GoesOn.{fresh_reader}
+use Rattle.hac_top.proofs.LineLemmas.{on-stop, runs-begin, stops-unread}
+use Rattle.hac_top.proofs.OpenedLemmas.{Opening, ran-opened-with, ran-unopened, told-given}
+use Rattle.hac_top.proofs.UnattachedLemmas.{IsUnattached, ran-more, ran-unattached, within-same}
+
+-- ---- the devices of a drawn script
+
+-- a source that has given nothing yet, and a sink that keeps nothing
+abbrev pub own_outside : ℕ → Outside
+own_outside number = outside (seen_of_script (record { left = generated number; ended = false })) seen_of_nothing
+
+-- a device that didn't fail reports no fault
+no-fault : (failed : Bool) (before now : ℕ) → ReportsFault failed before now → now ≡ before → (Rose before before → ⊥) → failed ≡ false
+no-fault true before now told same never = absurd (never (subst (λ (n : ℕ). Rose before n) same told.1))
+no-fault false before now told same never = refl
+
+never-rose : Rose 0 0 → ⊥
+never-rose rose = absurd (omega (arith, rose))
+
+-- ---- what is told
+
+-- the reply was written, or not
+pub told-all : (played : Result Bool Status) (refused : Bool) (s : State) (before after : SinkSeen) → played ≡ Ok refused → WritesAll before after (counts_text s) → TellsLeft played (Ok refused) s before after
+told-all played refused s before after is all = subst (λ (p : Result Bool Status). TellsLeft p (Ok refused) s before after) (sym is) (refl, all)
+
+pub told-some : (played : Result Bool Status) (refused : Bool) (status : Status) (s : State) (before after : SinkSeen) → played ≡ Ok refused → StopsWriting status before after (counts_text s) → TellsLeft played (Err status) s before after
+told-some played refused status s before after is some = subst (λ (p : Result Bool Status). TellsLeft p (Err status) s before after) (sym is) some
+
+-- a status that stops a play is what the run ends with
+tells-stop : (stop : Status) (s : State) (before after : SinkSeen) → (IsFinished stop → ⊥) → after ≡ before → Tells stop stop s before after
+tells-stop Done s before after unfinished same = absurd (unfinished tt)
+tells-stop SomeRefused s before after unfinished same = absurd (unfinished tt)
+tells-stop other s before after unfinished same = (refl, same)
+
+-- nothing is told of what isn't played
+pub tells-none : (status : Status) (s : State) (sink : SinkSeen) → (IsFinished status → ⊥) → Tells status status s sink sink
+tells-none status s sink unfinished = tells-stop status s sink sink unfinished refl
+
+tells-by : (refused : Bool) (told : Result Bool Status) (s : State) (before after : SinkSeen) → TellsLeft (Ok refused) told s before after
+    → Tells (finished_status refused) (end_status told) s before after
+tells-by true (Ok true) s before after told = (refl, told.1)
+tells-by true (Ok false) s before after told = absurd (true≢false (sym told.0))
+tells-by false (Ok true) s before after told = absurd (true≢false told.0)
+tells-by false (Ok false) s before after told = (refl, told.1)
+tells-by true (Err WriteFault) s before after told = told
+tells-by true (Err Memory) s before after told = told
+tells-by true (Err other) s before after told = absurd told
+tells-by false (Err WriteFault) s before after told = told
+tells-by false (Err Memory) s before after told = told
+tells-by false (Err other) s before after told = absurd told
+
+pub tells-of : (played told : Result Bool Status) (s : State) (before after : SinkSeen) → IfErr played (λ stop. IsFinished stop → ⊥) → TellsLeft played told s before after
+    → Tells (end_status played) (end_status told) s before after
+tells-of (Ok refused) told s before after stops left = tells-by refused told s before after left
+tells-of (Err stop) told s before after stops left =
+    subst (λ (r : Result Bool Status). Tells stop (end_status r) s before after) (sym left.0) (tells-stop stop s before after stops left.1)
+
+-- ---- how the run ends then
+
+-- what is known of a run that told what its script left, whatever that was
+pub record EndsTelling (played status : Status) (before after : SinkSeen) : Type 0 where
+  pub opened : IsOpenStatus status
+  pub disk : is_disk_fault status ≡ is_disk_fault played
+  pub unread : is_read_fault status ≡ false
+  pub wrote : ReportsFault (is_write_fault status) before.faults after.faults
+  pub passed : (status ≡ WriteFault → ⊥) → before.held_back ≡ 0 → after.held_back ≡ 0
+
+ends-all : (played : Status) (bytes : List ℕ) (before after : SinkSeen) → IsOpenStatus played → is_read_fault played ≡ false → is_write_fault played ≡ false → WritesAll before after bytes → EndsTelling played played before after
+ends-all played bytes before after opened unread unwritten all = record {
+  opened = opened;
+  disk = refl;
+  unread = unread;
+  wrote = subst (λ (b : Bool). ReportsFault b before.faults after.faults) (sym unwritten) all.faults;
+  passed = λ _. all.passed;
+}
+
+ends-same : (played : Status) (before after : SinkSeen) → IsOpenStatus played → is_read_fault played ≡ false → is_write_fault played ≡ false → after ≡ before → EndsTelling played played before after
+ends-same played before after opened unread unwritten same = record {
+  opened = opened;
+  disk = refl;
+  unread = unread;
+  wrote = subst (λ (b : Bool). ReportsFault b before.faults after.faults) (sym unwritten) (ap (λ (k : SinkSeen). k.faults) same);
+  passed = λ _ none. ap (λ (k : SinkSeen). k.held_back) same ∙ none;
+}
+
+ends-memory : (played : Status) (before after : SinkSeen) → is_disk_fault played ≡ false → after ≡ before → EndsTelling played Memory before after
+ends-memory played before after disk same = record {
+  opened = tt;
+  disk = sym disk;
+  unread = refl;
+  wrote = ap (λ (k : SinkSeen). k.faults) same;
+  passed = λ _ none. ap (λ (k : SinkSeen). k.held_back) same ∙ none;
+}
+
+ends-failed : (played : Status) (s : State) (before after : SinkSeen) → is_disk_fault played ≡ false → TellsEnd played WriteFault s before after → EndsTelling played WriteFault before after
+ends-failed played s before after disk told = record { opened = tt; disk = sym disk; unread = refl; wrote = told.1; passed = λ other. absurd (other refl) }
+
+finished-facts : (refused : Bool) → IsOpenStatus (finished_status refused) × (is_disk_fault (finished_status refused) ≡ false) × (is_read_fault (finished_status refused) ≡ false) × (is_write_fault (finished_status refused) ≡ false)
+finished-facts true = (tt, refl, refl, refl)
+finished-facts false = (tt, refl, refl, refl)
+
+ends-by : (refused : Bool) (told : Result Bool Status) (s : State) (before after : SinkSeen) → TellsLeft (Ok refused) told s before after → EndsTelling (finished_status refused) (end_status told) before after
+ends-by refused (Ok now) s before after told =
+    let facts = finished-facts refused in
+    subst (λ (b : Bool). EndsTelling (finished_status refused) (finished_status b) before after) (sym told.0)
+    (ends-all (finished_status refused) _ before after facts.0 facts.2 facts.3 told.1)
+ends-by refused (Err WriteFault) s before after told = ends-failed (finished_status refused) s before after (finished-facts refused).1 told
+ends-by refused (Err Memory) s before after told = ends-memory (finished_status refused) before after (finished-facts refused).1 told
+ends-by refused (Err other) s before after told = absurd told
+
+pub ends-of : (played told : Result Bool Status) (s : State) (before after : SinkSeen) → IsOpenStatus (end_status played) → is_read_fault (end_status played) ≡ false → is_write_fault (end_status played) ≡ false →
+    TellsLeft played told s before after → EndsTelling (end_status played) (end_status told) before after
+ends-of (Ok refused) told s before after opened unread unwritten left = ends-by refused told s before after left
+ends-of (Err stop) told s before after opened unread unwritten left =
+    subst (λ (r : Result Bool Status). EndsTelling stop (end_status r) before after) (sym left.0) (ends-same stop before after opened unread unwritten left.1)
+
+-- ---- what is said of a run
+
+module _ {D : Type 0} {seen : D → Option (List ℕ)} {image : D → List ℕ → Type 0} {moment : D → ℕ} {image_since : D → ℕ → List ℕ → Type 0} {attached : D → Option (List (List ℕ × Bool))} {faults : D → ℕ} where
+  -- a script was played by devices of its own
+  pub made-by : {old new : D} {tick : ℕ} {setting : Setting} {number : ℕ} {spaces left : SpacesSeen} {result : Result Bool Status} {kept : Setting} (first last : ScriptLeft) → first.left ≡ generated number →
+      PlaysOn seen image moment image_since attached faults old new tick setting (outside (seen_of_script first) seen_of_nothing) (outside (seen_of_script last) seen_of_nothing) spaces left result kept →
+      PlaysMade seen image moment image_since attached faults old new tick setting number spaces left result kept
+  made-by {old} {new} {tick} {setting} {number} {spaces} {left} {result} {kept} first last is on = record {
+    own = outside (seen_of_script first) seen_of_nothing;
+    own_after = outside (seen_of_script last) seen_of_nothing;
+    script_is = ap (λ (bytes : List ℕ). Some bytes) is;
+    reads = refl;
+    writes = refl;
+    unread = no-fault (is_read_fault (end_status result)) 0 0 on.plays.ends.reads refl never-rose;
+    unwritten = no-fault (is_write_fault (end_status result)) 0 0 on.plays.ends.writes refl never-rose;
+    on = on;
+  }
+
+  -- there was no memory for the script
+  pub made-none : ((disk : D) (c : List ℕ) → image_since disk (moment disk) c → image disk c) → (disk : D) (tick number : ℕ) (spaces : SpacesSeen) (store : Seen) (refused : Bool) → refused ≡ false → store.broken ≡ false → Bears (seen disk) store →
+      PlaysMade seen image moment image_since attached faults disk disk tick store.setting number spaces spaces (Err Memory) store.setting
+  made-none only_now disk tick number spaces store refused begun intact place =
+      let first : ScriptLeft = record { left = generated number; ended = false } in
+      made-by first first refl
+      (on-stop (runs-begin only_now disk tick (own_outside number) spaces fresh_reader store refused refl refl begun intact place) (stops-unread (seen_of_script first)))
+
+  -- and then what it left was told
+  pub makes-store : {old new : D} {tick : ℕ} {setting : Setting} {number : ℕ} {spaces left : SpacesSeen} {played : Result Bool Status} (told : Result Bool Status) {kept : Setting} {before after : SinkSeen} →
+      PlaysMade seen image moment image_since attached faults old new tick setting number spaces left played kept → TellsLeft played told kept.state before after →
+      MakesStore seen image moment image_since attached faults old new tick setting number before after spaces left (end_status told)
+  makes-store {old} {new} {tick} {setting} {number} {spaces} {left} {played} told {kept} {before} {after} made tells =
+      record {
+        played = end_status played;
+        own = made.own;
+        own_after = made.own_after;
+        script_is = made.script_is;
+        reads = made.reads;
+        writes = made.writes;
+        plays = made.on.plays;
+        tells = of spaces.contents made.own.source.left made.script_is played made.on.leaves made.on.stops tells;
+        opened = ends.opened;
+        reported = subst (λ (b : Bool). ReportsFault b (faults old) (faults new)) (sym ends.disk) made.on.plays.reported;
+        unread = ends.unread;
+        wrote = ends.wrote;
+        passed = ends.passed;
+      }
+    where
+      ends : EndsTelling (end_status played) (end_status told) before after
+      ends = ends-of played told kept.state before after made.on.plays.opened made.unread made.unwritten tells
+
+      of : (o : Option Contents) (script : Option (List ℕ)) → script ≡ Some (generated number) → (played : Result Bool Status) →
+          OnOk played (IfSome o (λ c. IfSome script (λ bytes. kept ≡ left_by setting (play (given_by c made.on.plays.met tick) setting bytes)))) → IfErr played (λ stop. IsFinished stop → ⊥) → TellsLeft played told kept.state before after →
+          IfSome o (λ c. Tells (end_status played) (end_status told) (left_by setting (play (given_by c made.on.plays.met tick) setting (generated number))).state before after)
+      of None script is played leaves stops tells = search rules
+      of (Some c) script is (Ok refused) leaves stops tells =
+          subst (λ (z : Setting). Tells (finished_status refused) (end_status told) z.state before after)
+          (subst (λ (o : Option (List ℕ)). IfSome o (λ bytes. kept ≡ left_by setting (play (given_by c made.on.plays.met tick) setting bytes))) is leaves) (tells-by refused told kept.state before after tells)
+      of (Some c) script is (Err stop) leaves stops tells =
+          subst (λ (r : Result Bool Status). Tells stop (end_status r) (left_by setting (play (given_by c made.on.plays.met tick) setting (generated number))).state before after) (sym tells.0)
+          (tells-stop stop _ before after stops tells.1)
+
+-- a status that says why no store was opened, or no space attached, isn't one of a script that was played to its end
+pub opening-unfinished : (status : Status) → StopsOpening status → IsFinished status → ⊥
+opening-unfinished Done stops finished = stops
+opening-unfinished SomeRefused stops finished = stops
+opening-unfinished other stops finished = finished
+
+pub unattached-unfinished : (status : Status) → IsUnattached status → IsFinished status → ⊥
+unattached-unfinished Done un finished = un
+unattached-unfinished SomeRefused un finished = un
+unattached-unfinished other un finished = finished
+
+-- what is said of a run that is to make its script, in all
+abbrev pub SaysMade : {D : Type 0} (seen : D → Option (List ℕ)) (image : D → List ℕ → Type 0) (moment : D → ℕ) (image_since : D → ℕ → List ℕ → Type 0) (old new : D) (asked : Options) (spaces left : SpacesSeen) (status : Status) (before after : SinkSeen)
+    (faultless : Outside → Outside → Type 0) → Status → Outside → Outside → Type 0
+SaysMade seen image moment image_since old new asked spaces left status before after faultless played own own_after =
+    IfOpened asked (seen old) own.source.left (λ setting script. IfTold spaces left asked.tick setting script (λ given.
+    Ran asked.fresh given played setting script own own_after (IsSettled (seen old) (image old)) (image new) (LeavesOnly moment image_since old new) (faultless own own_after)
+    × Tells played status (left_by setting (play given setting script)).state before after))
+
+-- the same of it where more is known
+pub makes-given : {number : ℕ} {before after : Outside} (P R : Status → Outside → Outside → Type 0) → ((played : Status) (own own_after : Outside) → P played own own_after → R played own own_after) → Makes number before after P → Makes number before after R
+makes-given P R then_r makes = record {
+  played = makes.played;
+  own = makes.own;
+  own_after = makes.own_after;
+  script_is = makes.script_is;
+  reads = makes.reads;
+  writes = makes.writes;
+  unread = makes.unread;
+  says = then_r makes.played makes.own makes.own_after makes.says;
+}
+
+pub makes-each : (make : Option ℕ) (P R : ℕ → Type 0) → ((number : ℕ) → P number → R number) → IfSome make P → IfSome make R
+makes-each None P R then_r made = search rules
+makes-each (Some number) P R then_r made = then_r number made
+
+pub makes-all : (make : Option ℕ) (P : ℕ → Type 0) → ((number : ℕ) → P number) → IfSome make P
+makes-all None P each = search rules
+makes-all (Some number) P each = each number
+
+module _ {D : Type 0} (seen : D → Option (List ℕ)) (image : D → List ℕ → Type 0) (moment : D → ℕ) (image_since : D → ℕ → List ℕ → Type 0) (attached : D → Option (List (List ℕ × Bool))) (faults : D → ℕ) where
+  -- nothing was played
+  pub makes-none : (asked : Options) (old new : D) (before after : Outside) (spaces left : SpacesSeen) (status : Status) (number : ℕ) (faultless : Outside → Outside → Type 0) → (IsFinished status → ⊥) → after.source ≡ before.source → after.sink ≡ before.sink →
+      IfOpened asked (seen old) (Some (generated number)) (λ setting script. IfTold spaces left asked.tick setting script (λ given.
+      Ran asked.fresh given status setting script (own_outside number) (own_outside number) (IsSettled (seen old) (image old)) (image new) (LeavesOnly moment image_since old new) (faultless (own_outside number) (own_outside number)))) →
+      Makes number before after (SaysMade seen image moment image_since old new asked spaces left status before.sink after.sink faultless)
+  makes-none asked old new before after spaces left status number faultless unfinished unread unwritten ran =
+      let own = own_outside number in
+      record {
+        played = status;
+        own = own;
+        own_after = own;
+        script_is = refl;
+        reads = refl;
+        writes = refl;
+        unread = unread;
+        says =
+            told-given asked.fresh asked.tick
+            (λ given setting script. Ran asked.fresh given status setting script own own (IsSettled (seen old) (image old)) (image new) (LeavesOnly moment image_since old new) (faultless own own))
+            (λ given setting script. Ran asked.fresh given status setting script own own (IsSettled (seen old) (image old)) (image new) (LeavesOnly moment image_since old new) (faultless own own)
+            × Tells status status (left_by setting (play given setting script)).state before.sink after.sink)
+            (λ given setting script ran. (ran, tells-stop status (left_by setting (play given setting script)).state before.sink after.sink unfinished unwritten)) spaces spaces left refl (seen old) (Some (generated number)) ran;
+      }
+
+  -- a store was opened, and the script was played on it
+  pub makes-opened : (counts_now : (disk : D) (t : ℕ) (c : List ℕ) → t ≤ moment disk → image disk c → image_since disk t c) (asked : Options) (old mid new : D) (setting : Setting) (before after : Outside) (spaces left : SpacesSeen) (status : Status) (number : ℕ) →
+      MakesStore seen image moment image_since attached faults mid new asked.tick setting number before.sink after.sink spaces left status → faults mid ≡ faults old → after.source ≡ before.source →
+      IfSome (seen old) (λ f. opening_outcome asked.fresh (held f) ≡ Ok setting) → IfSome (seen old) (λ _. Stands (seen mid) (image mid) setting) →
+      IfSome (seen old) (λ f. IfOk (opening_outcome asked.fresh (held f)) (Opening seen image moment image_since attached faults asked.fresh (IsSettled (seen old) (image old)) old mid)) →
+      Makes number before after (SaysMade seen image moment image_since old new asked spaces left status before.sink after.sink (λ own own_after. IsFaultless own own_after (faults old) (faults new)))
+  makes-opened counts_now asked old mid new setting before after spaces left status number made quiet unread is stands opening =
+      record {
+        played = made.played;
+        own = made.own;
+        own_after = made.own_after;
+        script_is = made.script_is;
+        reads = made.reads;
+        writes = made.writes;
+        unread = unread;
+        says =
+            ran-opened-with seen image moment image_since attached faults counts_now asked.fresh asked.tick (IsSettled (seen old) (image old)) old mid new setting made.own made.own_after spaces left made.played made.plays quiet
+            (λ given z script. Tells made.played status (left_by z (play given z script)).state before.sink after.sink) (seen old) is stands opening (tells spaces.contents made.own.source.left made.script_is made.tells);
+      }
+    where
+      tells : (o : Option Contents) (script : Option (List ℕ)) → script ≡ Some (generated number) →
+          IfSome o (λ c. Tells made.played status (left_by setting (play (given_by c made.plays.met asked.tick) setting (generated number))).state before.sink after.sink) →
+          IfSome o (λ c. IfSome script (λ s. Tells made.played status (left_by setting (play (given_by c made.plays.met asked.tick) setting s)).state before.sink after.sink))
+      tells None script is told = search rules
+      tells (Some c) script is told =
+          subst (λ (l : Option (List ℕ)). IfSome l (λ s. Tells made.played status (left_by setting (play (given_by c made.plays.met asked.tick) setting s)).state before.sink after.sink)) (sym is) told
+
+-- how such a run ends
+pub made-ends : {D : Type 0} {seen : D → Option (List ℕ)} {image : D → List ℕ → Type 0} {moment : D → ℕ} {image_since : D → ℕ → List ℕ → Type 0} {attached : D → Option (List (List ℕ × Bool))} {faults : D → ℕ} {old new : D} {tick : ℕ} {setting : Setting} {number : ℕ}
+    {spaces left : SpacesSeen} {status : Status} (before : Outside) (after : SinkSeen) → MakesStore seen image moment image_since attached faults old new tick setting number before.sink after spaces left status → Ends status before (outside before.source after)
+made-ends before after made = record {
+  reads = subst (λ (b : Bool). ReportsFault b before.source.faults before.source.faults) (sym made.unread) refl;
+  writes = made.wrote;
+  within = within-same before.source.left;
+  passed = made.passed;
+}
+
+-- nothing is to be made
+pub makes-not : (make : Option ℕ) (P : ℕ → Type 0) → make ≡ None → IfSome make P
+makes-not None P is = search rules
+makes-not (Some number) P is = absurd (true≢false (ap is_some is))
+
+module _ {D : Type 0} (seen : D → Option (List ℕ)) (image : D → List ℕ → Type 0) (moment : D → ℕ) (image_since : D → ℕ → List ℕ → Type 0) (attached : D → Option (List (List ℕ × Bool))) (faults : D → ℕ)
+    (only_now : (disk : D) (c : List ℕ) → image_since disk (moment disk) c → image disk c) (counts_now : (disk : D) (t : ℕ) (c : List ℕ) → t ≤ moment disk → image disk c → image_since disk t c) where
+  -- no store was opened
+  pub made-unopened : (asked : Options) (old new : D) (before : Outside) (spaces : SpacesSeen) (status : Status) → StopsOpening status → ReportsFault (is_disk_fault status) (faults old) (faults new) →
+      IfSome (seen old) (λ f. IsOpened (Err status) (opening_outcome asked.fresh (held f))) →
+      IfSome (seen old) (λ f. IfOk (opening_outcome asked.fresh (held f)) (Opening seen image moment image_since attached faults asked.fresh (IsSettled (seen old) (image old)) old new)) →
+      (make : Option ℕ) → IfSome make (λ number. Makes number before before
+      (SaysMade seen image moment image_since old new asked spaces spaces status before.sink before.sink (λ own own_after. IsFaultless own own_after (faults old) (faults new))))
+  made-unopened asked old new before spaces status stops told opened opening make =
+      makes-all make (λ number. Makes number before before (SaysMade seen image moment image_since old new asked spaces spaces status before.sink before.sink (λ own own_after. IsFaultless own own_after (faults old) (faults new))))
+      (λ number.
+      makes-none seen image moment image_since attached faults asked old new before before spaces spaces status number (λ own own_after. IsFaultless own own_after (faults old) (faults new)) (opening-unfinished status stops) refl refl
+      (ran-unopened seen image moment image_since attached faults counts_now asked.fresh asked.tick (IsSettled (seen old) (image old)) old new (own_outside number) spaces status stops told (seen old) opened opening))
+
+  -- no space was attached
+  pub made-unattached : (faultless : Outside → Outside → Type 0) (status : Status) → IsUnattached status → ((own : Outside) → faultless own own → is_bad_space status ≡ true → ⊥) → (asked : Options) (disk : D) (before : Outside) (old new : SpacesSeen) → old.faults ≤ new.faults →
+      (make : Option ℕ) → IfSome make (λ number. Makes number before before (SaysMade seen image moment image_since disk disk asked old new status before.sink before.sink faultless))
+  made-unattached faultless status un good asked disk before old new later make =
+      makes-all make (λ number. Makes number before before (SaysMade seen image moment image_since disk disk asked old new status before.sink before.sink faultless))
+      (λ number.
+      makes-none seen image moment image_since attached faults asked disk disk before before old new status number faultless (unattached-unfinished status un) refl refl
+      (ran-unattached seen image moment image_since attached faults only_now counts_now (faultless (own_outside number) (own_outside number)) status un (good (own_outside number)) asked disk (own_outside number) old new later))
+
+  -- memory ran out before any space was attached
+  pub memory-made : (faultless : Options → Outside → Outside → Type 0) (words : Option Options) (disk : D) (before : Outside) (spaces : SpacesSeen) →
+      IfMakes words (λ asked number. Makes number before before (SaysMade seen image moment image_since disk disk asked spaces spaces Memory before.sink before.sink (faultless asked)))
+  memory-made faultless None disk before spaces = search rules
+  memory-made faultless (Some asked) disk before spaces = made-unattached (faultless asked) Memory tt (λ own _ never. absurd (true≢false (sym never))) asked disk before spaces spaces (omega arith) asked.make
+
+  -- spaces were attached before
+  pub made-given : (asked : Options) (old new : D) (before after : Outside) (spaces mid left : SpacesSeen) (status : Status) (less more : Outside → Outside → Type 0) → ((own own_after : Outside) → more own own_after → less own own_after) → mid.faults ≡ spaces.faults →
+      (make : Option ℕ) → IfSome make (λ number. Makes number before after (SaysMade seen image moment image_since old new asked mid left status before.sink after.sink less)) →
+      IfSome make (λ number. Makes number before after (SaysMade seen image moment image_since old new asked spaces left status before.sink after.sink more))
+  made-given asked old new before after spaces mid left status less more leads same make made =
+      let settled = IsSettled (seen old) (image old) in
+      let leaves = LeavesOnly moment image_since old new in
+      makes-each make (λ number. Makes number before after (SaysMade seen image moment image_since old new asked mid left status before.sink after.sink less))
+      (λ number. Makes number before after (SaysMade seen image moment image_since old new asked spaces left status before.sink after.sink more))
+      (λ number.
+      makes-given (SaysMade seen image moment image_since old new asked mid left status before.sink after.sink less) (SaysMade seen image moment image_since old new asked spaces left status before.sink after.sink more)
+      (λ played own own_after says.
+      told-given asked.fresh asked.tick
+      (λ given setting script. Ran asked.fresh given played setting script own own_after settled (image new) leaves (less own own_after) × Tells played status (left_by setting (play given setting script)).state before.sink after.sink)
+      (λ given setting script. Ran asked.fresh given played setting script own own_after settled (image new) leaves (more own own_after) × Tells played status (left_by setting (play given setting script)).state before.sink after.sink)
+      (λ given setting script both. (ran-more asked.fresh given played setting script own own_after settled (image new) leaves (less own own_after) (more own own_after) (leads own own_after) both.0, both.1))
+      spaces mid left same (seen old) own.source.left says)) made

@@ -1,0 +1,99 @@
+-- A run that draws its script from a number, and then tells what that left.
+use Rattle.std.specs.Prelude.{◌≡◌, ℕ, Bool, false, List, [], ◌∷◌, Option, Some, Result, Ok, Err}
+use Rattle.std.specs.Option.{IfSome}
+use Rattle.hac_outside.specs.Causes.{ReportsFault}
+use Rattle.hac_outside.specs.Seen.{SinkSeen}
+use Rattle.hac_model.specs.Run.Play.{Setting, data_lines, left_by, no_answers, play}
+use Rattle.hac_model.specs.Script.CommandLine.{Options}
+use Rattle.hac_model.specs.Script.Generator.{generated}
+use Rattle.hac_model.specs.Script.Printed.{text}
+use Rattle.hac_model.specs.declared.replies.Reply.{Reply}
+use Rattle.hac_model.specs.declared.replies.Reply.TheVariants.{Lines}
+use Rattle.hac_model.specs.declared.resolved.Resolved.TheVariants.{Counts}
+use Rattle.hac_model.specs.declared.states.State.{State}
+use Rattle.sem_mounts.specs.Seen.{SpacesSeen}
+use Rattle.hac_top.specs.Asking.{given_by}
+use Rattle.hac_top.specs.Ends.{IsOpenStatus, end_status, is_disk_fault, is_read_fault, is_write_fault}
+use Rattle.hac_top.specs.Replies.{StopsWriting, WritesAll}
+use Rattle.hac_top.specs.Run.{Outside, PlaysOn, PlaysStore}
+use Rattle.hac_top.specs.declared.status.Status.{Status}
+use Rattle.hac_top.specs.declared.status.Status.TheVariants.{Done, SomeRefused, WriteFault, Memory}
+
+-- the reply to `counts`
+abbrev pub counts_reply : State → Reply
+counts_reply s = Lines (data_lines no_answers s Counts)
+
+-- what is written of it
+abbrev pub counts_text : State → List ℕ
+counts_text s = text (counts_reply s ∷ [])
+
+-- the reply was written and passed on, unless the sink failed or memory ran out before
+abbrev pub TellsEnd : Status → Status → State → SinkSeen → SinkSeen → Type 0
+TellsEnd played WriteFault s before after = StopsWriting WriteFault before after (counts_text s)
+TellsEnd played Memory s before after = after ≡ before
+TellsEnd played status s before after = (status ≡ played) × WritesAll before after (counts_text s)
+
+-- What a run tells of the state that its script left, and how the run ends, given how the play of the script ended. Where
+-- that stopped before the script's end, nothing is told.
+abbrev pub Tells : Status → Status → State → SinkSeen → SinkSeen → Type 0
+Tells Done status s before after = TellsEnd Done status s before after
+Tells SomeRefused status s before after = TellsEnd SomeRefused status s before after
+Tells played status s before after = (status ≡ played) × (after ≡ before)
+
+-- The script of a number was played to some end, from a source that had it and to a sink, which both are the run's own and
+-- didn't fail. Nothing was taken of the source that the run was given.
+pub record Makes (number : ℕ) (before after : Outside) (Says : Status → Outside → Outside → Type 0) : Type 0 where
+  pub played : Status
+  pub own : Outside
+  pub own_after : Outside
+  pub script_is : own.source.left ≡ Some (generated number)
+  pub reads : own_after.source.faults ≡ own.source.faults
+  pub writes : own_after.sink.faults ≡ own.sink.faults
+  pub unread : after.source ≡ before.source
+  pub says : Says played own own_after
+
+-- the words, if they are known, and the number from which the script is to be drawn, where they have one
+abbrev pub IfMakes : Option Options → (Options → ℕ → Type 0) → Type 0
+IfMakes words P = IfSome words (λ asked. IfSome asked.make (P asked))
+
+-- how the script of a number is played on a store that was opened, by devices of its own
+pub record PlaysMade {D : Type 0} (seen : D → Option (List ℕ)) (image : D → List ℕ → Type 0)
+    (moment : D → ℕ) (image_since : D → ℕ → List ℕ → Type 0)
+    (attached : D → Option (List (List ℕ × Bool))) (faults : D → ℕ) (old new : D)
+    (tick : ℕ) (setting : Setting) (number : ℕ) (spaces left : SpacesSeen)
+    (result : Result Bool Status) (kept : Setting) : Type 0 where
+  pub own : Outside
+  pub own_after : Outside
+  pub script_is : own.source.left ≡ Some (generated number)
+  pub reads : own_after.source.faults ≡ own.source.faults
+  pub writes : own_after.sink.faults ≡ own.sink.faults
+  pub unread : is_read_fault (end_status result) ≡ false
+  pub unwritten : is_write_fault (end_status result) ≡ false
+  pub on : PlaysOn seen image moment image_since attached faults old new tick setting own own_after spaces left result kept
+
+-- what is told of the state that a script left, where it was played to its end
+abbrev pub TellsLeft : Result Bool Status → Result Bool Status → State → SinkSeen → SinkSeen → Type 0
+TellsLeft (Err stop) result s before after = (result ≡ Err stop) × (after ≡ before)
+TellsLeft (Ok refused) (Ok now) s before after = (now ≡ refused) × WritesAll before after (counts_text s)
+TellsLeft (Ok refused) (Err status) s before after = StopsWriting status before after (counts_text s)
+
+-- How the script of a number is played on a store that was opened, and what is then told. A fault of the sink or of the
+-- disk is reported, and no other.
+pub record MakesStore {D : Type 0} (seen : D → Option (List ℕ)) (image : D → List ℕ → Type 0)
+    (moment : D → ℕ) (image_since : D → ℕ → List ℕ → Type 0)
+    (attached : D → Option (List (List ℕ × Bool))) (faults : D → ℕ) (old new : D)
+    (tick : ℕ) (setting : Setting) (number : ℕ) (before after : SinkSeen) (spaces left : SpacesSeen) (status : Status) : Type 0 where
+  pub played : Status
+  pub own : Outside
+  pub own_after : Outside
+  pub script_is : own.source.left ≡ Some (generated number)
+  pub reads : own_after.source.faults ≡ own.source.faults
+  pub writes : own_after.sink.faults ≡ own.sink.faults
+  pub plays : PlaysStore seen image moment image_since attached faults old new tick setting own own_after spaces left played
+  pub tells : IfSome spaces.contents (λ contents.
+      Tells played status (left_by setting (play (given_by contents plays.met tick) setting (generated number))).state before after)
+  pub opened : IsOpenStatus status
+  pub reported : ReportsFault (is_disk_fault status) (faults old) (faults new)
+  pub unread : is_read_fault status ≡ false
+  pub wrote : ReportsFault (is_write_fault status) before.faults after.faults
+  pub passed : (status ≡ WriteFault → ⊥) → before.held_back ≡ 0 → after.held_back ≡ 0

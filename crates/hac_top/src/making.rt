@@ -1,0 +1,130 @@
+//! Making: a script that is drawn from a number is played, and then what it left is told.
+ghost use Rattle.std.specs.Prelude.{◌≡◌, false, IfOk, codes};
+ghost use Rattle.hac_model.specs.Run.Given.{no_answers};
+ghost use Rattle.hac_model.specs.declared.commands.Command.TheVariants as command;
+ghost use Rattle.hac_model.specs.declared.replies.Deny.TheVariants as denied;
+ghost use Rattle.hac_store.specs.Stores.{Bears};
+ghost use Rattle.hac_top.specs.Making.{MakesStore, PlaysMade, TellsLeft, counts_reply};
+
+use crate::answering::Player;
+use crate::devices::{ScriptSource, Unwritten};
+use crate::generating::make_script;
+use crate::playing::{end_status, play_script};
+use crate::status::Status;
+use hac_core::Machine;
+use hac_disk::Disk;
+use hac_model::{Answers, Command, Deny, Line, Memory, Name, Reply, Seq};
+use hac_outside::Sink;
+use hac_store::Store;
+use sem_mounts::Spaces;
+use std::alloc::Global;
+
+/// Plays the script of a number on a store that was opened, and then writes the reply to `counts`.
+pub fn make_store<K: Sink, D: Disk, P: Spaces>(
+    alloc: Global,
+    store: Store,
+    tick: u64,
+    number: u64,
+    output: &mut K,
+    disk: &mut D,
+    spaces: &mut P,
+) -> Status
+    requires intact { store.broken ≡ false }
+    requires place { Bears (D.seen disk.old) store }
+    ensures { MakesStore D.seen D.image D.moment D.image_since D.attached D.faults disk.old disk.new
+        tick store.setting number (K.seen output.old) (K.seen output.new) (P.seen spaces.old)
+        (P.seen spaces.new) result }
+{
+    let mut player = Player {
+        alloc,
+        store,
+        tick,
+        refused: false,
+    };
+    let played = play_made(alloc, &mut player, number, disk, spaces);
+    let told = tell_counts(alloc, &mut player, output, played);
+    drop(player);
+    end_status(told)
+}
+
+// Plays the script of a number to its end. None of its replies is kept.
+fn play_made<D: Disk, P: Spaces>(
+    alloc: Global,
+    player: &mut Player,
+    number: u64,
+    disk: &mut D,
+    spaces: &mut P,
+) -> Result<bool, Status>
+    requires begun { player.old.refused ≡ false }
+    requires intact { player.old.store.broken ≡ false }
+    requires place { Bears (D.seen disk.old) player.old.store }
+    ensures { PlaysMade D.seen D.image D.moment D.image_since D.attached D.faults disk.old disk.new
+        player.old.tick player.old.store.setting number (P.seen spaces.old) (P.seen spaces.new)
+        result player.new.store.setting }
+{
+    let mut source = ScriptSource::new(make_script(alloc, number)?);
+    let mut sink = Unwritten;
+    play_script(alloc, player, &mut source, &mut sink, disk, spaces)
+}
+
+// Writes the reply to `counts`, where the script was played to its end.
+fn tell_counts<K: Sink>(
+    alloc: Global,
+    player: &mut Player,
+    output: &mut K,
+    played: Result<bool, Status>,
+) -> Result<bool, Status>
+    ensures { TellsLeft played result player.old.store.setting.state (K.seen output.old)
+        (K.seen output.new) }
+{
+    let refused = played?;
+    let reply = counts_reply(alloc, player.store.machine())?;
+    player.write_reply(output, reply)?;
+    Ok(refused)
+}
+
+// The reply to `counts`. No state refuses it.
+fn counts_reply(alloc: Global, machine: &Machine) -> Result<Reply, Memory>
+    ensures { IfOk result (λ reply. reply ≡ counts_reply machine.now.state) }
+{
+    let _dirty = machine.dirty();
+    match machine.check(counts_line(alloc)?) {
+        Ok(draft) => match machine.ask(draft, no_answers(alloc)) {
+            Ok(reply) => Ok(reply),
+            Err(deny) => Err(only_memory(deny)),
+        },
+        Err(deny) => Err(only_memory(deny)),
+    }
+}
+
+// The line `counts`, of the session of lines that name none.
+fn counts_line(alloc: Global) -> Result<Line, Memory>
+    ensures { IfOk result (λ line. line ≡ record
+        { session = codes "main"; command = command.Counts }) }
+{
+    Ok(Line {
+        session: Name::new(Vec::from_slice(alloc, b"main")?),
+        command: Command::Counts,
+    })
+}
+
+// What spaces answer where nothing is asked.
+fn no_answers(alloc: Global) -> Answers
+    ensures { result ≡ no_answers }
+{
+    Answers {
+        list: Seq::new(Vec::new(alloc)),
+        found: Seq::new(Vec::new(alloc)),
+        fetched: None,
+    }
+}
+
+// Where nothing refuses a command, memory ran out.
+fn only_memory(deny: Deny) -> Memory
+    requires { deny ≡ denied.Memory }
+{
+    match deny {
+        Deny::Memory => Memory,
+        Deny::Refused(_) => unreachable!(),
+    }
+}
