@@ -21,5 +21,6 @@ pub mod MakingLemmas
 pub mod GeneratingLemmas
 pub mod WordSpaces
 pub mod WordLooks
+pub mod WordRowLemmas
 pub mod WordLemmas
 pub mod WordMatches

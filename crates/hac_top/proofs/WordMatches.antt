@@ -19,7 +19,8 @@ use Rattle.hac_top.specs.Words.{fault_by, hac, values_of}
 use Rattle.hac_top.specs.declared.words.WordsFault.{WordsFault}
 use Rattle.hac_top.specs.declared.words.WordsFault.TheVariants.{Memory, Usage}
 use Rattle.hac_top.proofs.WordLooks.{Valued, has_fault, make_value, name_of, tick_value}
-use Rattle.hac_top.proofs.WordLemmas.{Finds, so_far, texts_of, words-found}
+use Rattle.hac_top.proofs.WordLemmas.{Finds, texts_of, words-found}
+use Rattle.hac_top.proofs.WordRowLemmas.{so_far}
 
 -- each word is text
 all-text : {Z : Type 0} (words : List (String Z)) → AllByRecursion IsUtf8 (map string_bytes words)

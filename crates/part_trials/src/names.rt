@@ -1,5 +1,6 @@
 //! Names, as trials write them.
 ghost use Rattle.std.specs.Prelude.{◌≡◌, IfOk};
+ghost use Rattle.hac_model.specs.declared.terms.Term.TheVariants as term;
 
 use hac_model::{Name, Term};
 use std::alloc::{AllocError, Global};
@@ -13,17 +14,21 @@ pub fn name(alloc: Global, letters: &[u8]) -> Result<Name, AllocError>
 }
 
 /// The word of these letters.
-pub fn word(alloc: Global, letters: &[u8]) -> Result<Term, AllocError> {
+pub fn word(alloc: Global, letters: &[u8]) -> Result<Term, AllocError>
+    ensures { IfOk result (λ word. word ≡ term.Word letters.now) }
+{
     Ok(Term::Word(name(alloc, letters)?))
 }
 
 /// The words that begin with these letters.
-pub fn prefix(alloc: Global, letters: &[u8]) -> Result<Term, AllocError> {
+pub fn prefix(alloc: Global, letters: &[u8]) -> Result<Term, AllocError>
+    ensures { IfOk result (λ prefix. prefix ≡ term.Prefix letters.now) }
+{
     Ok(Term::Prefix(name(alloc, letters)?))
 }
 
 /// These are the names, each with a space behind it.
-pub fn expect_names(
+pub(crate) fn expect_names(
     rt: &impl Abort,
     alloc: Global,
     names: &[Name],

@@ -175,7 +175,7 @@ fn expect_refused(
 }
 
 /// Spaces in memory, of which one is attached, with documents about fruit.
-pub fn fruit(alloc: Global, failing: &[u64]) -> Result<MemorySpaces, AttachFault> {
+pub(crate) fn fruit(alloc: Global, failing: &[u64]) -> Result<MemorySpaces, AttachFault> {
     let space = fruit_name(alloc)?;
     let mut spaces = unattached(alloc, FRUIT, failing)?;
     match spaces.attach(&space, "a") {
