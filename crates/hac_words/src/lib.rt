@@ -11,5 +11,6 @@ mod standing;
 mod windows;
 
 pub use bytes::is_word;
-pub use listing::words_of;
+pub use listing::{runs_of, words_of};
+pub use runs::Run;
 pub use searching::has_term;

@@ -1,4 +1,4 @@
-//! The distinct words of a text.
+//! The words of a text: its distinct ones in order, and those of a text in lower case as they stand.
 ghost use Rattle.std.specs.Prelude.{◌≡◌, IfOk};
 ghost use Rattle.hac_model.specs.Query.Words.{lower_case, rising_words, runs};
 
@@ -13,14 +13,15 @@ pub fn words_of(alloc: Global, text: &[u8]) -> Result<Words, Memory>
     ensures { IfOk result (λ words. words ≡ rising_words text.now) }
 {
     let text = text.to_ascii_lowercase(alloc)?;
-    let mut words = runs(alloc, &text)?;
+    let mut words = runs_of(alloc, &text)?;
     words.sort_unstable();
     words.dedup();
     Ok(Words::new(names(alloc, &words)?))
 }
 
-// The longest runs of word bytes, in the order of the text.
-fn runs(alloc: Global, text: &[u8]) -> Result<Vec<Run<'_>>, AllocError>
+/// The longest runs of word bytes, in the order of the text and as often as it has them. Those of a
+/// text in lower case are its words. They borrow the text, so none takes memory of its own.
+pub fn runs_of(alloc: Global, text: &[u8]) -> Result<Vec<Run<'_>>, AllocError>
     ensures { IfOk result (λ found. found.items ≡ runs text.now) }
 {
     text.split(|b| !is_word_byte(*b))

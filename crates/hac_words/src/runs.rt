@@ -10,9 +10,9 @@ ghost use Rattle.hac_words.specs.Fronts.{front_of};
 use std::cmp::Ordering;
 use std::marker::Model;
 
-/// A run of bytes, seen as these.
+/// A run of bytes of a text, seen as these.
 #[derive(Drop)]
-pub(crate) struct Run<'t> {
+pub struct Run<'t> {
     front: u64,
     bytes: &'t [u8],
 }
@@ -40,7 +40,7 @@ impl<'t> Run<'t> {
     }
 
     /// Its bytes.
-    pub(crate) fn as_bytes(&self) -> &[u8]
+    pub fn as_bytes(&self) -> &[u8]
         ensures { result.now ≡ self.now }
     {
         self.bytes

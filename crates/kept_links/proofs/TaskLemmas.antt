@@ -38,7 +38,7 @@ use Rattle.kept_links.specs.Kept.{is_still}
 use Rattle.kept_links.specs.Tasks.{AreAlong, IsTaskOf, IsWayFrom, begins_touched}
 use Rattle.reindex.specs.Past.{Lead}
 use Rattle.reindex.specs.Steps.{AreSettled}
-use Rattle.reindex.specs.Ways.{IsWayOver, IsWayOf, begun_at, leans, with_first, stops_at, stops_everywhere}
+use Rattle.reindex.specs.Ways.{IsWayOver, IsWayOf, begun_at, leans, needed, with_first, stops_at, stops_everywhere}
 use Rattle.reindex.specs.declared.ways.Way.{Way}
 use Rattle.kept_links.proofs.EdgeLemmas.{edges-still, lends-still}
 use Rattle.kept_links.proofs.ItemLemmas.{in-neither, others-once, others-untouched, touched-apart, touched-once, touched-touches}
@@ -46,6 +46,7 @@ use Rattle.kept_links.proofs.NewDirLemmas.{passed-over}
 use Rattle.kept_links.proofs.SemanticLemmas.{asks-still, semantic-still}
 use Rattle.kept_links.proofs.MarkLemmas.{mark-begins, mark-leaves}
 use Rattle.reindex.proofs.SettledLemmas.{leads-if}
+use Rattle.reindex.proofs.NeededLemmas.{covers-needed, needed-everywhere}
 use Rattle.reindex.proofs.WayLemmas.{begun-way, covers-at, covers-everywhere, covers-from, depends-semantic, leans-well, semantic-depends, way-over}
 
 -- an order over the same edges
@@ -101,14 +102,15 @@ passed-still s (Cd session parent) valid ok item over dir = absurd cc
 -- The stops of an item that is touched.
 
 pub only-if : (event : Event) (mark : MarkData) (stops all : List Stop) (result : Result (Vec Stop Global) Memory) → event ≡ Mark mark → stops ≡ all →
-    IfOk result (λ only. only.items ≡ begun_at (λ other. other == mark.dir) stops) → IfOk result (λ only. only.items ≡ begun_at (begins_touched event) all)
-only-if event mark stops all (Ok only) is same each = each ∙ ap (begun_at (λ other. other == mark.dir)) same ∙ sym (ap (λ (e : Event). begun_at (begins_touched e) all) is)
+    IfOk result (λ only. only.items ≡ needed (begun_at (λ other. other == mark.dir) stops)) → IfOk result (λ only. only.items ≡ needed (begun_at (begins_touched event) all))
+only-if event mark stops all (Ok only) is same each =
+    each ∙ ap (λ (stops : List Stop). needed (begun_at (λ other. other == mark.dir) stops)) same ∙ sym (ap (λ (e : Event). needed (begun_at (begins_touched e) all)) is)
 only-if event mark stops all (Err memory) is same each = tt
 
 -- where it isn't a mark, judging begins at each, as it does on the way
-pub begun-others : (s : State) (event : Event) (way : Way) → IsWayOf s way → ((mark : MarkData) → event ≡ Mark mark → ⊥) → begun_at (begins_touched event) way.stops.items ≡ way.stops.items
+pub begun-others : (s : State) (event : Event) (way : Way) → IsWayOf s way → ((mark : MarkData) → event ≡ Mark mark → ⊥) → needed (begun_at (begins_touched event) way.stops.items) ≡ way.stops.items
 begun-others s (Mark mark) way w other = absurd (other mark refl)
-begun-others s event way w other = begun-way s way w (λ dir. true) ∙ sym w.stops
+begun-others s event way w other = ap needed (begun-way s way w (λ dir. true)) ∙ needed-everywhere (leans s) w.order ∙ sym w.stops
 
 -- one that an event touches which is no mark is judged at each directory
 covers-all : (s : State) (event : Event) → IsValid s → IsTrue (accepted s event) → (way : Way) (w : IsWayOf (apply s event) way) (item : ℕ) → touches s event item ≡ true → Covers s (apply s event) (stops_everywhere (apply s event) w.order) item
@@ -202,13 +204,15 @@ module _ (s : State) (event : Event) (valid : IsValid s) (ok : IsTrue (accepted 
       in-others : (item : ℕ) → Among task.others.items item → Among (others s event) item
       in-others item within = subst (λ (items : List ℕ). Among items item) are within
 
-  pub task-touched : (task : Task) (way : Way) → task.touched.items ≡ touched s event → (w : IsWayOf t way) → task.everywhere.items ≡ begun_at (begins_touched event) way.stops.items → ((dir : ℕ) → begins s event dir ≡ false) → task.others.items ≡ [] → IsTaskOf s event task
+  pub task-touched : (task : Task) (way : Way) → task.touched.items ≡ touched s event → (w : IsWayOf t way) → task.everywhere.items ≡ needed (begun_at (begins_touched event) way.stops.items) → ((dir : ℕ) → begins s event dir ≡ false) → task.others.items ≡ [] → IsTaskOf s event task
   task-touched task way is w where_touched never none = record {
     touched = subst EachOnce (sym is) (touched-once s event);
     others = subst EachOnce (sym none) tt;
     apart = λ item inside within. nobody item within;
     planned = record {
-      touched = λ item inside. subst (λ (stops : List Stop). Covers s t stops item) (sym (where_touched ∙ begun-way t way w (begins_touched event))) (covers-begun s event valid ok way w item (touched-touches s event item (subst (λ (items : List ℕ). Among items item) is inside)));
+      touched = λ item inside. subst (λ (stops : List Stop). Covers s t stops item) (sym (where_touched ∙ ap needed (begun-way t way w (begins_touched event))))
+          (covers-needed s t (stops_at (begins_touched event) (leans t) w.order) item
+          (covers-begun s event valid ok way w item (touched-touches s event item (subst (λ (items : List ℕ). Among items item) is inside))));
       others = λ item within. absurd (nobody item within);
       rest = λ item out away dir. stays never item (λ inside. out (subst (λ (items : List ℕ). Among items item) (sym is) inside)) dir;
     };

@@ -5,7 +5,7 @@ ghost use Rattle.hac_model.specs.Tree.Touched.{begins};
 ghost use Rattle.hac_model.specs.declared.states.State.{State};
 ghost use Rattle.kept_links.specs.Tasks.{AreAlong, IsTaskOf, IsWayFrom, begins_touched};
 ghost use Rattle.kept_state.specs.After.{next_state};
-ghost use Rattle.reindex.specs.Ways.{IsWayOf, begun_at};
+ghost use Rattle.reindex.specs.Ways.{IsWayOf, begun_at, needed};
 
 use crate::items::{other_items, touched_items};
 use crate::outlook::Outlook;
@@ -43,7 +43,7 @@ pub(crate) fn task_of_touched(
 fn stops_of_touched(alloc: Global, way: &Way, event: &Event) -> Result<Vec<Stop>, Memory>
     requires { (s : State) × IsWayOf s way.now }
     ensures { IfOk result (λ stops.
-        stops.items ≡ begun_at (begins_touched event.now) way.now.stops.items) }
+        stops.items ≡ needed (begun_at (begins_touched event.now) way.now.stops.items)) }
 {
     match event {
         Event::Mark(mark) => stops_only(alloc, way.stops.as_slice(), mark.dir),
@@ -51,16 +51,17 @@ fn stops_of_touched(alloc: Global, way: &Way, event: &Event) -> Result<Vec<Stop>
     }
 }
 
-/// The same stops, where judging begins at one directory.
+/// The stops at which an item may be judged, where judging begins at one directory.
 fn stops_only(alloc: Global, stops: &[Stop], dir: Number) -> Result<Vec<Stop>, Memory>
-    ensures { IfOk result (λ only. only.items ≡ begun_at (λ other. other == dir) stops.now) }
+    ensures { IfOk result (λ only.
+        only.items ≡ needed (begun_at (λ other. other == dir) stops.now)) }
 {
     let mut only = Vec::new(alloc);
     for stop in stops {
-        only.push(Stop {
-            begins: stop.dir == dir,
-            ..*stop
-        })?;
+        let begins = stop.dir == dir;
+        if begins || stop.leans {
+            only.push(Stop { begins, ..*stop })?;
+        }
     }
     Ok(only)
 }

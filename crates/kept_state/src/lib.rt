@@ -21,3 +21,4 @@ pub use answers::{Lists, is_among, is_answered};
 pub use edges::{edges_of, push_named};
 pub use gains::Gains;
 pub use kept::KeptState;
+pub use terms::ordered_terms;

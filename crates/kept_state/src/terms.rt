@@ -33,11 +33,18 @@ pub fn unanswered(
     requires { TermsRise None answers.now }
     ensures { IfOk result (λ terms. terms.items ≡ unanswered query.now answers.now) }
 {
-    let mut terms = Vec::new(alloc);
-    push_terms(&mut terms, query)?;
-    let mut ordered = in_order(alloc, terms)?;
+    let mut ordered = ordered_terms(alloc, query)?;
     ordered.retain(|term| !is_answered(answers, term));
     Ok(ordered)
+}
+
+/// The terms of a query in order, each once.
+pub fn ordered_terms(alloc: Global, query: &Query<Number>) -> Result<Vec<Term>, Memory>
+    ensures { IfOk result (λ terms. terms.items ≡ in_order (terms_of query.now)) }
+{
+    let mut terms = Vec::new(alloc);
+    push_terms(&mut terms, query)?;
+    in_order(alloc, terms)
 }
 
 /// The terms in order, each once.

@@ -15,6 +15,7 @@ ghost use Rattle.query_index.specs.Seen.{IsIndexOf};
 use crate::postings::{self, Postings};
 use crate::queries;
 use hac_model::{Memory, Name, Number, Query};
+use hac_words::Run;
 use indexmap::IndexMap;
 use std::alloc::Global;
 use std::marker::Model;
@@ -88,8 +89,8 @@ impl QueryIndex {
         Ok(marks)
     }
 
-    /// Says of each query whether it may hold of an item with these words.
-    pub fn fitting(&self, words: &[Name]) -> Result<Vec<bool>, Memory>
+    /// Says of each query whether it may hold of an item with these words, in any order.
+    pub fn fitting(&self, words: &[Run<'_>]) -> Result<Vec<bool>, Memory>
         ensures { (queries : List (Option (Formula ℕ))) → IsIndexOf queries self.now →
             IfOk result (λ marks. marks.items
             ≡ map (λ query. option_map_or (may_hold words.now) query false) queries) }
@@ -112,12 +113,12 @@ impl QueryIndex {
     }
 
     /// Marks the queries that ask for one of these words.
-    fn mark_words(&self, words: &[Name], marks: &mut [bool])
+    fn mark_words(&self, words: &[Run<'_>], marks: &mut [bool])
         ensures { marks.new ≡ marked
             (λ place. list_any (λ word. is_asked_at self.now word place) words.now) marks.old }
     {
         for word in words {
-            self.mark(word, marks);
+            self.mark(word.as_bytes(), marks);
         }
     }
 
@@ -129,16 +130,16 @@ impl QueryIndex {
             marks.old }
     {
         if !is_among(word, others) {
-            self.mark(word, marks);
+            self.mark(word.as_bytes(), marks);
         }
     }
 
     /// Marks the queries that ask for a word.
-    fn mark(&self, word: &Name, marks: &mut [bool])
+    fn mark(&self, word: &[u8], marks: &mut [bool])
         ensures { marks.new ≡ marked (is_asked_at self.now word.now) marks.old }
     {
-        postings::mark(&self.words, word.as_bytes(), marks);
-        postings::mark_beginnings(&self.beginnings, word.as_bytes(), marks);
+        postings::mark(&self.words, word, marks);
+        postings::mark_beginnings(&self.beginnings, word, marks);
     }
 }
 

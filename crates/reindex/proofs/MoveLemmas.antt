@@ -21,8 +21,9 @@ use Rattle.reeval.specs.declared.settling.Stop.{Stop}
 use Rattle.reeval.proofs.AlikeLemmas.{judge-across, none-across}
 use Rattle.reeval.proofs.JudgeLemmas.{links-judged}
 use Rattle.reindex.specs.Moves.{OnlyMoves, crosses, place_tells}
-use Rattle.reindex.specs.Ways.{IsWayOf, begun_at, leans}
+use Rattle.reindex.specs.Ways.{IsWayOf, begun_at, leans, needed, stops_at}
 use Rattle.reindex.specs.declared.ways.Way.{Way}
+use Rattle.reindex.proofs.NeededLemmas.{covers-needed}
 use Rattle.reindex.proofs.WayLemmas.{any-none, begun-way, covers-at, leans-well}
 
 module _ (s t : State) (item : ℕ) (moves : OnlyMoves s t item) where
@@ -113,7 +114,8 @@ module _ (s t : State) (item : ℕ) (moves : OnlyMoves s t item) where
   place-begins dir is none = let never : false ≡ true = sym (ap (list_any (crosses s t item)) none) ∙ is in absurd cc
 
   -- so it is judged again wherever its place may tell
-  pub covers-place : IsValid s → IsValid t → (way : Way) → IsWayOf t way → (stops all : List Stop) → all ≡ way.stops.items → stops ≡ begun_at (place_tells s t item) all → Covers s t stops item
+  pub covers-place : IsValid s → IsValid t → (way : Way) → IsWayOf t way → (stops all : List Stop) → all ≡ way.stops.items → stops ≡ needed (begun_at (place_tells s t item) all) → Covers s t stops item
   covers-place before after way w stops all same are =
-      subst (λ (marked : List Stop). Covers s t marked item) (sym (are ∙ ap (begun_at (place_tells s t item)) same ∙ begun-way t way w (place_tells s t item)))
-      (covers-at s t (place_tells s t item) (leans t) w.order item (links-judged s before item) after w.ordered w.all (leans-well t t way w (λ dir. refl)) place-begins place-leaves)
+      subst (λ (marked : List Stop). Covers s t marked item) (sym (are ∙ ap needed (ap (begun_at (place_tells s t item)) same ∙ begun-way t way w (place_tells s t item))))
+      (covers-needed s t (stops_at (place_tells s t item) (leans t) w.order) item
+      (covers-at s t (place_tells s t item) (leans t) w.order item (links-judged s before item) after w.ordered w.all (leans-well t t way w (λ dir. refl)) place-begins place-leaves))

@@ -7,7 +7,7 @@ use Rattle.std.specs.declared.alloc.Global.{Global}
 use Rattle.dep_graph.specs.Searches.{IsOrdered}
 use Rattle.hac_model.specs.Query.Formula.{Formula}
 use Rattle.hac_model.specs.Query.Queries.{terms_of}
-use Rattle.hac_model.specs.Query.Words.{has_term, is_asked, rising_words}
+use Rattle.hac_model.specs.Query.Words.{has_term, is_asked, rising_words, words}
 use Rattle.hac_model.specs.Tree.Depends.{depends}
 use Rattle.hac_model.specs.Tree.Links.{atom, has, holds, kept_at, parent_of, provide, query_at, shown_of}
 use Rattle.hac_model.specs.Tree.Valid.{IsValid}
@@ -17,7 +17,7 @@ use Rattle.hac_model.specs.declared.states.Body.{Body}
 use Rattle.hac_model.specs.declared.states.Body.TheVariants.{File, Dir, Symlink, Semantic, Mount, Document}
 use Rattle.hac_model.specs.declared.states.State.{State}
 use Rattle.hac_model.specs.declared.terms.Term.{Term}
-use Rattle.hac_words.proofs.WordLemmas.{has_term-rising_words}
+use Rattle.hac_words.proofs.WordLemmas.{has_term-rising_words, list_any-rising_words}
 use Rattle.query_index.proofs.LawLemmas.{unasked_terms_stay, unfit_queries_fail}
 use Rattle.reeval.specs.Judging.{JudgesAlike, LeavesAlike, ProvidesAlike}
 use Rattle.reeval.specs.Routes.{Covers, dirs_of}
@@ -25,9 +25,10 @@ use Rattle.reeval.specs.declared.settling.Stop.{Stop}
 use Rattle.reeval.proofs.AlikeLemmas.{judge-across, none-across, unfound-across}
 use Rattle.reeval.proofs.JudgeLemmas.{links-judged}
 use Rattle.reindex.specs.Steps.{indexed_through, may_begin, may_differ}
-use Rattle.reindex.specs.Ways.{IsWayOf, begun_at, leans, stops_marked}
+use Rattle.reindex.specs.Ways.{IsWayOf, begun_at, leans, needed, stops_marked}
 use Rattle.reindex.specs.declared.ways.Way.{Way}
 use Rattle.reindex.proofs.IndexedLemmas.{added-indexed, below-indexed, depends-indexed, document-indexed, item-indexed, lenders-indexed, parent-indexed, permanent-indexed, prohibited-indexed, query-indexed, semantic-indexed}
+use Rattle.reindex.proofs.NeededLemmas.{covers-needed}
 use Rattle.reindex.proofs.WayLemmas.{begun-way, covers-at, covers-everywhere, leans-well, semantic-depends}
 
 -- what shows a text is no document
@@ -40,16 +41,20 @@ text-no-document (Some (Semantic query permanent prohibited)) text h = absurd cc
 text-no-document (Some (Mount space answers)) text h = absurd cc
 text-no-document (Some Document) text h = absurd cc
 
--- what has a text has the terms for which its words are
-atom-by : (s : State) (item : ℕ) (text : List ℕ) → is_document_at s.entries item ≡ false → shown_of s item ≡ Some text → (term : Term) → atom s term item ≡ list_any (is_asked term) (rising_words text)
+-- what has a text has the terms for which its words are, in whatever order these are listed
+atom-by : (s : State) (item : ℕ) (text : List ℕ) → is_document_at s.entries item ≡ false → shown_of s item ≡ Some text → (term : Term) → atom s term item ≡ has_term text term
 atom-by s item text plain shows term =
     ap (λ (b : Bool). if b then has (kept_at s (parent_of s item) term) item else option_map_or (λ text. has_term text term) (shown_of s item) false) plain
     ∙ ap (λ (o : Option (List ℕ)). option_map_or (λ text. has_term text term) o false) shows
-    ∙ has_term-rising_words text term
 
-pub all-by : (s : State) (item : ℕ) (text : List ℕ) → is_document_at s.entries item ≡ false → shown_of s item ≡ Some text → (terms : List Term) → AllByRecursion (λ term. atom s term item ≡ list_any (is_asked term) (rising_words text)) terms
-all-by s item text plain shows [] = tt
-all-by s item text plain shows (term ∷ terms) = (atom-by s item text plain shows term, all-by s item text plain shows terms)
+pub all-by : (s : State) (item : ℕ) (text : List ℕ) (listed : List (List ℕ)) → ((term : Term) → has_term text term ≡ list_any (is_asked term) listed)
+    → is_document_at s.entries item ≡ false → shown_of s item ≡ Some text → (terms : List Term) → AllByRecursion (λ term. atom s term item ≡ list_any (is_asked term) listed) terms
+all-by s item text listed tells plain shows [] = tt
+all-by s item text listed tells plain shows (term ∷ terms) = (atom-by s item text plain shows term ∙ tells term, all-by s item text listed tells plain shows terms)
+
+-- they may be listed as the text has them
+pub told-by-words : (text : List ℕ) (term : Term) → has_term text term ≡ list_any (is_asked term) (words text)
+told-by-words text term = has_term-rising_words text term ∙ list_any-rising_words (is_asked term) text
 
 -- the file is to show this text
 module _ (s : State) (last file : ℕ) (text : List ℕ) (shows : shown_of (indexed_through last s) file ≡ Some text) where
@@ -68,8 +73,8 @@ module _ (s : State) (last file : ℕ) (text : List ℕ) (shows : shown_of (inde
       unfound-across s t file dir asked asks (query-indexed last s dir ∙ asks) (sym (item-indexed last s file)) (sym (lenders-indexed last s dir))
       (λ i. plain i || is_some (none i))
       (λ b. ap (λ (o : Option (Formula ℕ)). option_map_or (λ (query : Formula ℕ). holds t b query file) o false) (query-indexed last s dir ∙ asks)
-      ∙ unfit_queries_fail (rising_words text) asked out (atom t) (provide t b) file
-      (all-by t file text plain-then shows (terms_of asked)))
+      ∙ unfit_queries_fail (words text) asked out (atom t) (provide t b) file
+      (all-by t file text (words text) (told-by-words text) plain-then shows (terms_of asked)))
 
   -- a query that asks for no word that is gone or new holds as it did
   again-judged : (dir : ℕ) (asked : Formula ℕ) (old : List ℕ) → query_at s dir ≡ Some asked → shown_of s file ≡ Some old → may_differ (Some old) text asked ≡ false → JudgesAlike s t file dir
@@ -87,7 +92,7 @@ module _ (s : State) (last file : ℕ) (text : List ℕ) (shows : shown_of (inde
     where
       terms-same : (terms : List Term) → AllByRecursion (λ term. list_any (is_asked term) (rising_words old) ≡ list_any (is_asked term) (rising_words text)) terms → AllByRecursion (λ term. atom s term file ≡ atom t term file) terms
       terms-same [] h = tt
-      terms-same (term ∷ terms) h = (atom-by s file old plain had term ∙ h.0 ∙ sym (atom-by t file text plain-then shows term), terms-same terms h.1)
+      terms-same (term ∷ terms) h = (atom-by s file old plain had term ∙ has_term-rising_words old term ∙ h.0 ∙ sym (atom-by t file text plain-then shows term ∙ has_term-rising_words text term), terms-same terms h.1)
 
   judges : (dir : ℕ) → may_begin s (shown_of s file) text dir ≡ false → JudgesAlike s t file dir
   judges dir still = at (query_at s dir) refl still
@@ -123,8 +128,10 @@ module _ (s : State) (last file : ℕ) (text : List ℕ) (shows : shown_of (inde
       (λ dir some. w.all dir (λ none. some (depends-indexed last s dir ∙ none))) (leans-well s t way w (depends-indexed last s)) begins-asked texts-leave)
 
   pub covered-if : (way : Way) → IsWayOf s way → IsValid s → IsValid t → (result : Result (Vec Stop Global) Memory) →
-      IfOk result (λ stops. stops.items ≡ begun_at (may_begin s (shown_of s file) text) way.stops.items) → IfOk result (λ stops. Covers s t stops.items file)
-  covered-if way w before after (Ok stops) is = subst (λ (items : List Stop). Covers s t items file) (sym is) (covered-text way w before after)
+      IfOk result (λ stops. stops.items ≡ needed (begun_at (may_begin s (shown_of s file) text) way.stops.items)) → IfOk result (λ stops. Covers s t stops.items file)
+  covered-if way w before after (Ok stops) is =
+      subst (λ (items : List Stop). Covers s t items file) (sym is)
+      (covers-needed s t (begun_at (may_begin s (shown_of s file) text) way.stops.items) file (covered-text way w before after))
   covered-if way w before after (Err memory) is = tt
 
 -- on that way it may be judged at each directory, too
@@ -147,6 +154,6 @@ marked-all s old new (stop ∷ stops) = ap (λ (more : List Stop). record stop {
 
 pub marked-if : (s : State) (old : Option (List ℕ)) (new : List ℕ) (result : Result (Vec Stop Global) Memory) (all stops : List Stop) (marks : List Bool) → stops ≡ all →
     marks ≡ map (λ query. option_map_or (may_differ old new) query false) (map (query_at s) (dirs_of all)) →
-    IfOk result (λ marked. marked.items ≡ stops_marked stops marks) → IfOk result (λ marked. marked.items ≡ begun_at (may_begin s old new) all)
-marked-if s old new (Ok marked) all stops marks same each is = is ∙ (λ i. stops_marked (same i) (each i)) ∙ marked-all s old new all
+    IfOk result (λ marked. marked.items ≡ needed (stops_marked stops marks)) → IfOk result (λ marked. marked.items ≡ needed (begun_at (may_begin s old new) all))
+marked-if s old new (Ok marked) all stops marks same each is = is ∙ (λ i. needed (stops_marked (same i) (each i))) ∙ ap needed (marked-all s old new all)
 marked-if s old new (Err memory) all stops marks same each is = tt

@@ -5,7 +5,7 @@ use Rattle.std.specs.List.{list_any}
 use Rattle.std.specs.Option.{option_map, option_map_or}
 use Rattle.hac_model.specs.Query.Formula.{Formula}
 use Rattle.hac_model.specs.Query.Queries.{terms_of}
-use Rattle.hac_model.specs.Query.Words.{rising_words}
+use Rattle.hac_model.specs.Query.Words.{words}
 use Rattle.hac_model.specs.Tree.Depends.{depends}
 use Rattle.hac_model.specs.Tree.Events.{edited}
 use Rattle.hac_model.specs.Tree.Limits.{semantic_count}
@@ -24,10 +24,11 @@ use Rattle.reeval.proofs.AlikeLemmas.{none-across, unfound-across}
 use Rattle.reeval.proofs.PlanLemmas.{empty-judged, unjudged-said}
 use Rattle.reindex.specs.Anew.{LendsNothing, never_indexed, unjudged_state}
 use Rattle.reindex.specs.Steps.{may_begin, may_differ}
-use Rattle.reindex.specs.Ways.{IsWayOf, begun_at, leans}
+use Rattle.reindex.specs.Ways.{IsWayOf, begun_at, leans, needed, stops_at}
 use Rattle.reindex.specs.declared.ways.Way.{Way}
 use Rattle.reindex.proofs.LeftLemmas.{Leaves, added-left, below-left, entry_at-left, item-left, lenders-left, query-left, semantic-left}
-use Rattle.reindex.proofs.TextLemmas.{all-by, text-no-document}
+use Rattle.reindex.proofs.TextLemmas.{all-by, text-no-document, told-by-words}
+use Rattle.reindex.proofs.NeededLemmas.{covers-needed}
 use Rattle.reindex.proofs.WayLemmas.{begun-way, covers-at, covers-everywhere, leans-well, semantic-depends}
 
 -- the body of an entry then
@@ -161,8 +162,8 @@ module _ (s : State) where
           at (Some asked) asks out =
               unfound-across u s file dir asked (query-left other_body leaves s dir ∙ asks) asks (item-left other_body leaves s file) (lenders-left other_body leaves s dir) (never-judged file)
               (λ b. ap (λ (o : Option (Formula ℕ)). option_map_or (λ (query : Formula ℕ). holds s b query file) o false) asks
-              ∙ unfit_queries_fail (rising_words text) asked out (atom s) (provide s b) file
-              (all-by s file text (text-no-document (body_at s.entries file) text shows) shows (terms_of asked)))
+              ∙ unfit_queries_fail (words text) asked out (atom s) (provide s b) file
+              (all-by s file text (words text) (told-by-words text) (text-no-document (body_at s.entries file) text shows) shows (terms_of asked)))
 
       provides : (e : ℕ) → ProvidesAlike u s file e
       provides e a b linked = λ i. below-left other_body leaves s e file i || (semantic-left other_body leaves s e i && (linked i || added-left other_body leaves s e file i))
@@ -175,11 +176,12 @@ module _ (s : State) where
           at (Some asked) h = refl
 
       -- it is judged wherever its words may tell
-      pub covers-first : IsValid s → (way : Way) → IsWayOf s way → Covers u s (begun_at (may_begin s None text) way.stops.items) file
+      pub covers-first : IsValid s → (way : Way) → IsWayOf s way → Covers u s (needed (begun_at (may_begin s None text) way.stops.items)) file
       covers-first valid way w =
-          subst (λ (stops : List Stop). Covers u s stops file) (sym (begun-way s way w (may_begin s None text)))
+          subst (λ (stops : List Stop). Covers u s (needed stops) file) (sym (begun-way s way w (may_begin s None text)))
+          (covers-needed u s (stops_at (may_begin s None text) (leans s) w.order) file
           (covers-at u s (may_begin s None text) (leans s) w.order file (none-judged file) valid w.ordered w.all (leans-well s s way w (λ dir. refl)) begins-asked
-          (record { judges = judges; provides = λ dir e still edge apart. provides e }))
+          (record { judges = judges; provides = λ dir e still edge apart. provides e })))
 
 -- an item that is judged at each directory, where nothing was known of any
 pub covers-blank : (s : State) → IsValid s → (way : Way) → IsWayOf s way → (item : ℕ) → Covers empty s way.stops.items item

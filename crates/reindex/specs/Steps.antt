@@ -4,7 +4,7 @@ use Rattle.std.specs.Option.{option_map_or}
 use Rattle.dep_graph.specs.Searches.{EachOnce}
 use Rattle.file_tree.specs.Answers.{is_dirty_at}
 use Rattle.hac_model.specs.Query.Formula.{Formula}
-use Rattle.hac_model.specs.Query.Words.{rising_words}
+use Rattle.hac_model.specs.Query.Words.{rising_words, words}
 use Rattle.hac_model.specs.Tree.Depends.{Among}
 use Rattle.hac_model.specs.Tree.Events.{apply_all, edited, indexed}
 use Rattle.hac_model.specs.Tree.Links.{query_at}
@@ -31,7 +31,7 @@ indexed_through last s = record s { entries = map (indexed_to last) s.entries }
 
 -- a query may say something else of a file that shows the second text, and showed the first, or none
 abbrev pub may_differ : Option (List ℕ) → List ℕ → Formula ℕ → Bool
-may_differ None new query = may_hold (rising_words new) query
+may_differ None new query = may_hold (words new) query
 may_differ (Some old) new query = asks_for_change (rising_words old) (rising_words new) query
 
 -- judging of a file that is to show the second text begins at the directory: its query may say something else

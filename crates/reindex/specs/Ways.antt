@@ -1,5 +1,5 @@
 -- The ways on which items are judged again after an event.
-use Rattle.std.specs.Prelude.{◌≡◌, ◌≢◌, ℕ, Bool, true, false, ◌==◌, List, [], ◌∷◌, length, map, not, if◌then◌else◌}
+use Rattle.std.specs.Prelude.{◌≡◌, ◌≢◌, ℕ, Bool, true, false, ◌==◌, ◌||◌, List, [], ◌∷◌, filter, length, map, not, if◌then◌else◌}
 use Rattle.std.specs.List.{list_any}
 use Rattle.dep_graph.specs.Searches.{IsOrdered}
 use Rattle.hac_model.specs.Tree.Depends.{Among, depends}
@@ -37,6 +37,10 @@ begun_at begins stops = map (begun begins) stops
 abbrev pub stops_marked : List Stop → List Bool → List Stop
 stops_marked (stop ∷ stops) (mark ∷ marks) = record stop { begins = mark } ∷ stops_marked stops marks
 stops_marked stops marks = []
+
+-- the stops at which an item may be judged: judging begins there, or may go on there
+abbrev pub needed : List Stop → List Stop
+needed stops = filter (λ stop. stop.begins || stop.leans) stops
 
 -- the numbers, with one in front if it isn't among them
 abbrev pub with_first : ℕ → List ℕ → List ℕ

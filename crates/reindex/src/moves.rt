@@ -11,7 +11,7 @@ ghost use Rattle.reeval.specs.Routes.{dirs_of};
 ghost use Rattle.reeval.specs.Told.{is_on, told};
 ghost use Rattle.reindex.specs.Moves.{OnlyMoves, crosses, place_tells};
 ghost use Rattle.reindex.specs.Steps.{AreSettled};
-ghost use Rattle.reindex.specs.Ways.{IsWayOf, begun_at};
+ghost use Rattle.reindex.specs.Ways.{IsWayOf, begun_at, needed};
 
 use crate::indexing::is_below;
 use crate::past::Past;
@@ -72,7 +72,7 @@ fn news_of_moved<Y: Layout, A: Atoms>(
     settle(alloc, layout, atoms, past, stops.as_slice(), item)
 }
 
-/// The same stops, where judging begins wherever the place of the item may tell.
+/// The stops at which the item may be judged. Judging begins wherever its place may tell.
 fn stops_of_moved<Y: Layout>(
     alloc: Global,
     layout: &Y,
@@ -81,14 +81,14 @@ fn stops_of_moved<Y: Layout>(
     item: Number,
 ) -> Result<Vec<Stop>, Memory>
     ensures { IfOk result (λ moved. moved.items
-        ≡ begun_at (place_tells kept.now.state (Y.state layout.now) item) stops.now) }
+        ≡ needed (begun_at (place_tells kept.now.state (Y.state layout.now) item) stops.now)) }
 {
     let mut moved = Vec::new(alloc);
     for stop in stops {
-        moved.push(Stop {
-            begins: place_tells(layout, kept, stop.dir, item),
-            ..*stop
-        })?;
+        let begins = place_tells(layout, kept, stop.dir, item);
+        if begins || stop.leans {
+            moved.push(Stop { begins, ..*stop })?;
+        }
     }
     Ok(moved)
 }

@@ -4,7 +4,8 @@ ghost use Rattle.std.specs.List.{list_any};
 ghost use Rattle.hac_model.specs.Tree.Links.{is_semantic, lenders, query_at};
 ghost use Rattle.query_index.specs.Seen.{IsIndexOf};
 ghost use Rattle.reindex.specs.Ways.{IsWayOf, IsWayOver};
-ghost use Rattle.reindex.specs.Ways.{leans, stops_everywhere, stops_from, stops_marked};
+ghost use Rattle.reindex.specs.Ways.{leans, needed, stops_everywhere, stops_from};
+ghost use Rattle.reindex.specs.Ways.{stops_marked};
 ghost use Rattle.reindex.specs.Ways.{with_first};
 
 use crate::indexing::Indexing;
@@ -132,21 +133,25 @@ pub(crate) fn stops_of_way(alloc: Global, way: &Way) -> Result<Vec<Stop>, Memory
     Ok(Vec::from_slice(alloc, way.stops.as_slice())?)
 }
 
-/// The same stops, where judging begins at those that are marked.
+/// The same stops, where judging begins at those that are marked, but for those at which nothing is
+/// judged: it doesn't begin there, and they lean on none.
 pub(crate) fn stops_marked(
     alloc: Global,
     stops: &[Stop],
     marks: &[bool],
 ) -> Result<Vec<Stop>, Memory>
     requires { length marks.now ≡ length stops.now }
-    ensures { IfOk result (λ marked. marked.items ≡ stops_marked stops.now marks.now) }
+    ensures { IfOk result (λ marked. marked.items ≡ needed (stops_marked stops.now marks.now)) }
 {
     let mut marked = Vec::new(alloc);
     for place in 0..stops.len() {
-        marked.push(Stop {
-            begins: marks[place],
-            ..stops[place]
-        })?;
+        let begins = marks[place];
+        if begins || stops[place].leans {
+            marked.push(Stop {
+                begins,
+                ..stops[place]
+            })?;
+        }
     }
     Ok(marked)
 }

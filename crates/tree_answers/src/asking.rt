@@ -1,19 +1,15 @@
 //! What the mounts have to be asked for a query, and what they are told by the names that their
 //! spaces answer. Nobody is asked here, and nothing is kept.
-ghost use Rattle.std.specs.Prelude.{◌≡◌, ◌++◌, ◌∷◌, ◌≤◌, [], map, length, None, IfOk, OnOk};
-ghost use Rattle.std.specs.List.{flat_map, prefix_len};
-ghost use Rattle.hac_model.specs.Query.Queries.{terms_of};
-ghost use Rattle.hac_model.specs.Query.Terms.{is_term_before};
+ghost use Rattle.std.specs.Prelude.{◌≡◌, ◌++◌, ◌∷◌, [], map, length, IfOk, OnOk};
+ghost use Rattle.std.specs.List.{flat_map};
 ghost use Rattle.hac_model.specs.Run.Asks.{documents_named, query_asks, told_for, told_to};
-ghost use Rattle.hac_model.specs.Tree.Mounts.{in_order, put_term};
 ghost use Rattle.file_tree.specs.Answers.{numbers_of};
-ghost use Rattle.kept_state.specs.Answers.{AreTermsInOrder};
 ghost use Rattle.tree_answers.specs.Asked.{mount_of, questions, questions_about, questions_at};
 
 use crate::lookups::is_mount;
 use crate::numbering;
-use hac_model::{Memory, Name, Node, Number, Query, Seq, Term};
-use kept_state::KeptState;
+use hac_model::{Memory, Name, Number, Query, Seq, Term};
+use kept_state::{KeptState, ordered_terms};
 use std::alloc::Global;
 
 /// A question to the space of a mount, whether its documents have a term.
@@ -101,64 +97,6 @@ fn push_question(
         questions.push(Question { mount, term })?;
     }
     Ok(())
-}
-
-/// The terms of a query in order, each once.
-fn ordered_terms(alloc: Global, query: &Query<Number>) -> Result<Vec<Term>, Memory>
-    ensures { IfOk result (λ terms. terms.items ≡ in_order (terms_of query.now)) }
-{
-    let mut terms = terms_of(alloc, query)?;
-    let mut ordered = Vec::new(alloc);
-    'terms: while let Some(term) = terms.pop() {
-        put_term(&mut ordered, term)?;
-    }
-    Ok(ordered)
-}
-
-/// The terms of a query, in its order.
-fn terms_of(alloc: Global, query: &Query<Number>) -> Result<Vec<Term>, Memory>
-    ensures { IfOk result (λ terms. terms.items ≡ terms_of query.now) }
-{
-    let mut terms = Vec::new(alloc);
-    push_terms(&mut terms, query)?;
-    Ok(terms)
-}
-
-/// Adds the terms of a query, in its order. It goes down as deep as the query does.
-fn push_terms(terms: &mut Vec<Term>, query: &Query<Number>) -> Result<(), Memory>
-    ensures { OnOk result (terms.new.items ≡ terms.old.items ++ terms_of query.now) }
-{
-    match &query.node {
-        Node::Term(term) => terms.push(term.clone()?)?,
-        Node::Dir(_) => {}
-        Node::Not(query) => push_terms(terms, query)?,
-        Node::And(left, right) | Node::Or(left, right) => {
-            push_terms(terms, left)?;
-            push_terms(terms, right)?;
-        }
-    }
-    Ok(())
-}
-
-/// Puts a term into its place among terms in order, if it isn't among them yet.
-fn put_term(terms: &mut Vec<Term>, term: Term) -> Result<(), Memory>
-    requires { AreTermsInOrder None terms.old.items }
-    ensures { OnOk result (terms.new.items ≡ put_term term terms.old.items) }
-{
-    let place = rank(terms.as_slice(), &term);
-    if place == terms.len() || term.is_before(&terms[place]) {
-        terms.insert(place, term)?;
-    }
-    Ok(())
-}
-
-/// How many of the terms come before this one.
-fn rank(terms: &[Term], term: &Term) -> usize
-    ensures within { result ≤ length terms.now }
-    ensures rank { AreTermsInOrder None terms.now →
-        result ≡ prefix_len (λ other. is_term_before other term.now) terms.now }
-{
-    terms.partition_point(|other| other.is_before(term))
 }
 
 /// What the mounts are told by the names that their spaces answered to the questions for a query.

@@ -4,7 +4,7 @@ use Rattle.hac_model.specs.declared.states.State.{State}
 use Rattle.reeval.specs.Routes.{Covers}
 use Rattle.reeval.specs.declared.settling.Stop.{Stop}
 use Rattle.reindex.specs.Moves.{place_tells}
-use Rattle.reindex.specs.Ways.{begun_at}
+use Rattle.reindex.specs.Ways.{begun_at, needed}
 use Rattle.reindex.proofs.MoveLemmas.{covers-place}
 use Rattle.reindex.proofs.moves.news_of_moved.Goals as goal
 
@@ -16,4 +16,4 @@ returns-clause-news g c = λ atoms.
     (subst (λ (stops : List Stop). Covers s t stops c.args.item) (sym c.as_slice-2.ensures.value)
     (covers-place s t c.args.item c.requires.moves (subst IsValid c.past.view_is c.know_valid.ensures) c.requires.after c.args.way.now c.requires.way
     c.in_ok-stops.stops.items c.as_slice.result.now c.as_slice.ensures.value
-    (subst (λ (u : State). c.in_ok-stops.stops.items ≡ begun_at (place_tells u t c.args.item) c.as_slice.result.now) c.past.view_is c.in_ok-stops.ensures)))
+    (subst (λ (u : State). c.in_ok-stops.stops.items ≡ needed (begun_at (place_tells u t c.args.item) c.as_slice.result.now)) c.past.view_is c.in_ok-stops.ensures)))

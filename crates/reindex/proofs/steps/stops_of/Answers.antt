@@ -4,7 +4,7 @@ use Rattle.std.specs.Option.{option_copied}
 use Rattle.hac_model.specs.Tree.Links.{query_at, shown_of}
 use Rattle.query_index.specs.Seen.{IsIndexOf}
 use Rattle.reindex.specs.Steps.{indexed_through, may_begin}
-use Rattle.reindex.specs.Ways.{begun_at}
+use Rattle.reindex.specs.Ways.{begun_at, needed}
 use Rattle.reindex.proofs.TextLemmas.{covered-anyway-if, covered-if}
 use Rattle.reindex.proofs.WayLemmas.{dirs-way}
 use Rattle.reindex.proofs.steps.stops_of.Goals as goal
@@ -16,7 +16,7 @@ returns-in-Some c =
     let w = c.requires.way in
     let shows : shown_of (indexed_through last s) c.args.file ≡ Some c.in-Some.text.now = sym c.shown.ensures ∙ ap option_copied c.in-Some.is in
     covered-if s last c.args.file c.in-Some.text.now shows c.args.way.now w c.know_valid.ensures c.requires.valid c.stops_for.result
-    (subst (λ (old : Option (List ℕ)). IfOk c.stops_for.result (λ stops. stops.items ≡ begun_at (may_begin s old c.in-Some.text.now) c.args.way.now.stops.items)) c.shown_of.ensures
+    (subst (λ (old : Option (List ℕ)). IfOk c.stops_for.result (λ stops. stops.items ≡ needed (begun_at (may_begin s old c.in-Some.text.now) c.args.way.now.stops.items))) c.shown_of.ensures
     (c.stops_for.ensures s (subst (λ (dirs : List ℕ). IsIndexOf (map (query_at s) dirs) c.args.way.now.index) (sym (dirs-way s c.args.way.now w)) w.index)))
 
 pub returns-then-len-le-FEW_STOPS : goal.returns-then-len-le-FEW_STOPS

@@ -11,4 +11,4 @@ asking-requires-clause-old c =
 
 pub asking-requires-clause-new : goal.asking-requires-clause-new
 asking-requires-clause-new c =
-    subst (λ (words : List (List ℕ)). IsStrictlySortedBy (slice_cmp nat_cmp) words) (sym (c.as_slice-in-Some.ensures ∙ c.in_ok-new.ensures)) (rising_words-rise c.args.new.now)
+    subst (λ (words : List (List ℕ)). IsStrictlySortedBy (slice_cmp nat_cmp) words) (sym (c.as_slice-in-Some.ensures ∙ c.in_ok-new-in-Some.ensures)) (rising_words-rise c.args.new.now)

@@ -12,6 +12,6 @@ pub loop-word-preserved : goal.loop-word-preserved
 loop-word-preserved c =
     let word = c.word-item.result in
     c.mark.ensures
-    ∙ ap (λ (w : List ℕ). marked (is_asked_at c.args.self.now w) c.loop-word.marks) c.word-item.is
+    ∙ ap (λ (w : List ℕ). marked (is_asked_at c.args.self.now w) c.loop-word.marks) (c.as_bytes.ensures ∙ c.word-item.is)
     ∙ ap (λ (marks : List Bool). marked (is_asked_at c.args.self.now (get_or c.args.words.now c.loop-word.word-index word)) marks) c.loop-word.invariant
     ∙ marked-more (is_asked_at c.args.self.now) c.args.words.now c.args.marks.now c.loop-word.word-index word c.loop-word-test.true

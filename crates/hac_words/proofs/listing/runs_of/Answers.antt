@@ -5,7 +5,7 @@ use Rattle.std.proofs.lemmas.Iterator.Splits.{YieldsList-from_slice_split}
 use Rattle.std.proofs.lemmas.List.{map-id}
 use Rattle.std.specs.Result.{IfOk}
 use Rattle.hac_model.specs.Query.Words.{has_bytes, is_word_byte, runs}
-use Rattle.hac_words.proofs.listing.runs.Goals as goal
+use Rattle.hac_words.proofs.listing.runs_of.Goals as goal
 
 pub returns : goal.returns
 returns c =
