@@ -18,7 +18,6 @@ pub mod AttachLemmas
 pub mod UnattachedLemmas
 pub mod CountsLemmas
 pub mod MakingLemmas
-pub mod GeneratingLemmas
 pub mod WordSpaces
 pub mod WordLooks
 pub mod WordRowLemmas

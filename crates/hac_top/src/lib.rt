@@ -7,7 +7,6 @@ mod answering;
 mod attaching;
 mod deciding;
 mod devices;
-mod generating;
 mod making;
 mod opening;
 mod playing;
@@ -18,6 +17,5 @@ mod taking;
 mod ticking;
 mod words;
 
-pub use generating::make_script;
 pub use running::run;
 pub use status::Status;

@@ -2,7 +2,7 @@ use Rattle.std.proofs.Common.{◌≡◌, ◌++◌}
 use Rattle.std.specs.List.{flat_map}
 use Rattle.hac_model.specs.Script.Generator.{drawn_lines}
 use Rattle.hac_model.specs.Script.Printed.{ended}
-use Rattle.hac_top.proofs.generating.push_drawn.Given as goal
+use Rattle.script_maker.proofs.generating.push_drawn.Given as goal
 
 -- what is there and the lines that are left are all
 abbrev pub invariant-lines : goal.invariant-lines

@@ -2,8 +2,8 @@ use Rattle.std.proofs.Common.{◌≡◌, List, ℕ, ◌+◌, ◌-◌, ◌++◌, 
 use Rattle.std.specs.List.{flat_map, range_with_len}
 use Rattle.hac_model.specs.Script.Generator.{semantic_line}
 use Rattle.hac_model.specs.Script.Printed.{ended}
-use Rattle.hac_top.proofs.GeneratingLemmas.{pushed-more}
-use Rattle.hac_top.proofs.generating.push_semantic.Goals as goal
+use Rattle.script_maker.proofs.GeneratingLemmas.{pushed-more}
+use Rattle.script_maker.proofs.generating.push_semantic.Goals as goal
 
 pub loop-number-preserved : goal.loop-number-preserved
 loop-number-preserved c =

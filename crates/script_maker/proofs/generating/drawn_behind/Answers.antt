@@ -1,7 +1,7 @@
 use Rattle.std.proofs.Common.{◌≡◌, ℕ, ◌+◌, ◌-◌, ◌∙◌, ap, arith, sym}
 use Rattle.hac_model.specs.Script.Generator.{drawn_behind, next_drawn}
-use Rattle.hac_top.proofs.GeneratingLemmas.{behind-more}
-use Rattle.hac_top.proofs.generating.drawn_behind.Goals as goal
+use Rattle.script_maker.proofs.GeneratingLemmas.{behind-more}
+use Rattle.script_maker.proofs.generating.drawn_behind.Goals as goal
 
 pub places-preserved : goal.places-preserved
 places-preserved c =

@@ -1,6 +1,6 @@
 use Rattle.std.proofs.Common.{refl}
 use Rattle.hac_model.specs.Script.Generator.{drawn_count}
-use Rattle.hac_top.proofs.generating.drawn_count.Goals as goal
+use Rattle.script_maker.proofs.generating.drawn_count.Goals as goal
 
 pub returns : goal.returns
 unfolding drawn_count

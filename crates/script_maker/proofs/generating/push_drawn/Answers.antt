@@ -1,7 +1,7 @@
 use Rattle.std.proofs.Common.{List, ℕ, ◌++◌, ◌∙◌, arith, string_bytes, ap}
 use Rattle.hac_model.specs.Script.Printed.{ended}
-use Rattle.hac_top.proofs.GeneratingLemmas.{goes-on}
-use Rattle.hac_top.proofs.generating.push_drawn.Goals as goal
+use Rattle.script_maker.proofs.GeneratingLemmas.{goes-on}
+use Rattle.script_maker.proofs.generating.push_drawn.Goals as goal
 
 pub lines-preserved : goal.lines-preserved
 lines-preserved c =

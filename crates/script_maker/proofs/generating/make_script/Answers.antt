@@ -2,8 +2,8 @@ use Rattle.std.proofs.Common.{ℕ, ◌++◌, ◌∙◌, ap, codes}
 use Rattle.std.specs.List.{flat_map}
 use Rattle.hac_model.specs.Script.Generator.{drawn_count, drawn_lines, plain_lines, semantic_lines}
 use Rattle.hac_model.specs.Script.Printed.{ended}
-use Rattle.hac_top.proofs.GeneratingLemmas.{script-made}
-use Rattle.hac_top.proofs.generating.make_script.Goals as goal
+use Rattle.script_maker.proofs.GeneratingLemmas.{script-made}
+use Rattle.script_maker.proofs.generating.make_script.Goals as goal
 
 pub returns : goal.returns
 returns c =

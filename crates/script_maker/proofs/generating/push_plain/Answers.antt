@@ -1,8 +1,8 @@
 use Rattle.std.proofs.Common.{List, ℕ, ◌++◌, ◌∙◌, arith, ap, codes}
 use Rattle.hac_model.specs.Script.Generator.{numbered}
 use Rattle.hac_model.specs.Script.Printed.{ended}
-use Rattle.hac_top.proofs.GeneratingLemmas.{pushed-more}
-use Rattle.hac_top.proofs.generating.push_plain.Goals as goal
+use Rattle.script_maker.proofs.GeneratingLemmas.{pushed-more}
+use Rattle.script_maker.proofs.generating.push_plain.Goals as goal
 
 pub loop-number-preserved : goal.loop-number-preserved
 loop-number-preserved c =

@@ -19,7 +19,8 @@ const INCREMENT: u64 = 1_442_695_040_888_963_407;
 // How many lines are drawn.
 const DRAWN_COUNT: u64 = 20_000;
 
-/// The script that is drawn from a number. The same number gives the same script.
+/// The script that is drawn from a number: 20,021 lines, of some 420 kB in all. The same number
+/// gives the same script. An error means that memory ran out.
 pub fn make_script(alloc: Global, number: u64) -> Result<Vec<u8>, Memory>
     ensures { IfOk result (λ script. script.items ≡ generated number) }
 {

@@ -1,7 +1,7 @@
 use Rattle.std.proofs.Common.{ℕ, List, ◌+◌, ◌-◌, ◌++◌, ◌∙◌, ap, codes, decimal}
 use Rattle.hac_model.specs.Script.Generator.{numbered}
-use Rattle.hac_top.proofs.GeneratingLemmas.{four-lists}
-use Rattle.hac_top.proofs.generating.semantic_line.Goals as goal
+use Rattle.script_maker.proofs.GeneratingLemmas.{four-lists}
+use Rattle.script_maker.proofs.generating.semantic_line.Goals as goal
 
 pub returns : goal.returns
 returns c =
