@@ -15,7 +15,6 @@ mod status;
 mod storing;
 mod taking;
 mod ticking;
-mod words;
 
 pub use running::run;
 pub use status::Status;

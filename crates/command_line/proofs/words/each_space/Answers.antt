@@ -1,9 +1,9 @@
 use Rattle.std.proofs.Common.{◌∙◌, ◌+◌, ap, arith, refl, rules, sym}
 use Rattle.std.specs.Prelude.{drop}
 use Rattle.hac_model.specs.Script.CommandLine.{each_space}
-use Rattle.hac_top.specs.Words.{space_asked, spaces_asked}
-use Rattle.hac_top.proofs.WordSpaces.{asked-more, before, no-space, none-before, space-next, spaces-end, texts}
-use Rattle.hac_top.proofs.words.each_space.Goals as goal
+use Rattle.command_line.specs.Words.{space_asked, spaces_asked}
+use Rattle.command_line.proofs.WordSpaces.{asked-more, before, no-space, none-before, space-next, spaces-end, texts}
+use Rattle.command_line.proofs.words.each_space.Goals as goal
 
 pub loop-word-init : goal.loop-word-init
 loop-word-init c =

@@ -1,23 +1,21 @@
 -- The words of the program: what the library finds in them is what they give.
-use Rattle.std.proofs.Common.{◌≡◌, ◌∙◌, ◌||◌, ◌&&◌, ℕ, suc, ◌+◌, Bool, cond, true, false, true≢false, List, [], ◌∷◌, ◌++◌, length, Option, Some, None, refl, sym, ap, ap₂, subst, append_assoc, append-nil, arith, codes, le-leb, lt-ltb, inl, inr}
-use Rattle.std.specs.Prelude.{◌⊎◌, ⊤, if◌then◌else◌, nat_lt, nat_le, option_and_then, option_map, option_to_list, is_some, find, fold, slice_get, unwrap_or}
-use Rattle.std.specs.List.{list_any, AllByRecursion}
-use Rattle.std.specs.Option.{option_or}
+use Rattle.std.proofs.Common.{◌≡◌, ◌∙◌, ◌||◌, ◌&&◌, ℕ, suc, Bool, cond, true, false, List, [], ◌∷◌, ◌++◌, length, Option, Some, None, refl, sym, ap, ap₂, subst, append-nil, arith, codes, inl, inr}
+use Rattle.std.specs.Prelude.{◌⊎◌, ⊤, if◌then◌else◌, nat_le, option_and_then, option_map, option_to_list, is_some, fold, slice_get, unwrap_or}
+use Rattle.std.specs.List.{AllByRecursion}
 use Rattle.std.specs.Str.{IsUtf8, bytes_eq}
-use Rattle.std.proofs.lemmas.List.Folds.{find-append}
 use Rattle.std.proofs.Math.Bool.{or-false}
-use Rattle.hac_model.specs.Script.CommandLine.{Parsed, asked_by, fresh_of, given_behind, given_by, is_dashed, make_of, names_alone, store_of, tick_of, with_name, with_new}
+use Rattle.hac_model.specs.Script.CommandLine.{Parsed, asked_by, given_behind, given_by, is_dashed, names_alone, with_name, with_new}
 use Rattle.clap.specs.Values.{bool_text}
 use Rattle.clap.specs.Kinds.{Kinds, or_else}
 use Rattle.clap.specs.Faults.{check_fault, defaults_fault, entered_fault, fault_of, level_fault, settle_fault, step_fault, turn_fault, walk_fault, word_fault}
-use Rattle.clap.specs.Walk.{Held, Row, Rule, Step, Text, Waiting, Walk, after_step, all_of, at_row, finished, first_of, has_row, idle, nothing_held, walk, more_values, is_pending, one_of, plain_word, positional, row_text, option, pushed, stronger, settled, settled_rows, value, walked, with_default, with_values, word_met}
+use Rattle.clap.specs.Walk.{Held, Row, Rule, Step, Text, Waiting, Walk, after_step, all_of, finished, first_of, has_row, idle, nothing_held, walk, more_values, is_pending, one_of, plain_word, positional, row_text, option, pushed, settled, settled_rows, value, walked, with_default, with_values, word_met}
 use Rattle.clap.specs.declared.builder.value_parser.Reading.TheVariants.{AsWritten}
-use Rattle.clap.specs.declared.parser.matches.ValueSource.TheVariants.{CommandLine, DefaultValue}
+use Rattle.clap.specs.declared.parser.matches.ValueSource.TheVariants.{DefaultValue}
 use Rattle.clap.specs.Words.{matches_of}
 use Rattle.clap.specs.Simple.{built, entered, filled}
-use Rattle.hac_top.specs.Words.{hac, space_names, store_name}
-use Rattle.hac_top.proofs.WordLooks.{IsFaulty, IsPlain, Look, Looks, Valued, all-pass, alone, arguments, ends, faulty, faulty-behind, fresh, has_fault, held_with, looks, make_value, name_of, or-first, plain, same-bytes, tick_value, top, two-or-more, valued, with_value}
-use Rattle.hac_top.proofs.WordRowLemmas.{Holds, Shows, absent, added, has-row, is-apart, joined, moved, name-moves, new-moves, none-by-names, none-more, one_row, other-row, own-row, row_by, same-given, so_far, spaces_row, use-new, use-space, use-store, use-value, value-moves}
+use Rattle.command_line.specs.Words.{hac, space_names, store_name}
+use Rattle.command_line.proofs.WordLooks.{IsFaulty, IsPlain, Look, Looks, Valued, all-pass, alone, arguments, ends, faulty, faulty-behind, fresh, has_fault, held_with, looks, make_value, name_of, or-first, plain, tick_value, top, two-or-more, valued, with_value}
+use Rattle.command_line.proofs.WordRowLemmas.{Holds, Shows, absent, added, has-row, is-apart, joined, moved, name-moves, new-moves, none-by-names, none-more, one_row, other-row, own-row, row_by, same-given, so_far, spaces_row, use-new, use-space, use-store, use-value, value-moves}
 
 -- ---- what the library finds
 

@@ -3,8 +3,8 @@ use Rattle.clap.specs.Simple.{App}
 use Rattle.clap.specs.Words.{AddsArg, Rule, app_of, rule_of, with_rule}
 use Rattle.clap.specs.declared.builder.arg.Arg.{Arg}
 use Rattle.clap.specs.declared.builder.command.Command.{Command}
-use Rattle.hac_top.specs.Words.{bare, make_option, new_option, space_names, store_name, tick_option}
-use Rattle.hac_top.proofs.words.command.Goals as goal
+use Rattle.command_line.specs.Words.{bare, make_option, new_option, space_names, store_name, tick_option}
+use Rattle.command_line.proofs.words.command.Goals as goal
 
 -- a command with one more argument
 with-one : (old new : Command) (arg : Arg) (app : App) (rule : Rule) → AddsArg old arg new → arg.global ≡ false → app_of old ≡ app → rule_of arg ≡ rule → app_of new ≡ with_rule app rule

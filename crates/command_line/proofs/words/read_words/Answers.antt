@@ -2,9 +2,9 @@ use Rattle.std.proofs.Common.{◌∙◌, ap, refl, sym}
 use Rattle.std.proofs.lemmas.Result.{err_from_is_err_and}
 use Rattle.clap.specs.Words.{app_of}
 use Rattle.hac_model.specs.Script.CommandLine.{spaces_of}
-use Rattle.hac_top.specs.Words.{spaces_asked}
-use Rattle.hac_top.proofs.WordMatches.{found-in-matches, got-is, names-got, none-by-error, none-by-make, none-by-spaces, none-by-tick, store-got}
-use Rattle.hac_top.proofs.words.read_words.Goals as goal
+use Rattle.command_line.specs.Words.{spaces_asked}
+use Rattle.command_line.proofs.WordMatches.{found-in-matches, got-is, names-got, none-by-error, none-by-make, none-by-spaces, none-by-tick, store-got}
+use Rattle.command_line.proofs.words.read_words.Goals as goal
 
 pub returns-in_err-matches-clause-usage : goal.returns-in_err-matches-clause-usage
 returns-in_err-matches-clause-usage c =

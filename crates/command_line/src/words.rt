@@ -8,8 +8,8 @@ ghost use Rattle.clap.specs.Words.{app_of, rule_of};
 ghost use Rattle.hac_model.specs.Script.CommandLine.{each_space, make_of, may_stand};
 ghost use Rattle.hac_model.specs.Script.CommandLine.{names_differ, options, space_of};
 ghost use Rattle.hac_model.specs.Script.CommandLine.{spaces_of, tick_of};
-ghost use Rattle.hac_top.specs.Words.{asked_of, flag_option, hac, space_asked, spaces_asked};
-ghost use Rattle.hac_top.specs.Words.{valued_option, values_of};
+ghost use Rattle.command_line.specs.Words.{asked_of, flag_option, hac, space_asked, spaces_asked};
+ghost use Rattle.command_line.specs.Words.{valued_option, values_of};
 
 use clap::builder::ValueParser;
 use clap::error::ErrorKind;
@@ -19,42 +19,42 @@ use hac_names::is_space_name;
 use shell_lang::{seed_of, steps_of};
 use std::alloc::{AllocError, Global};
 
-/// What the words ask for.
+/// What the words ask for. Its texts are parts of the words.
 #[derive(Debug, Drop)]
-pub(crate) struct Options<'a> {
+pub struct Options<'a> {
     /// The store is to be a new one.
-    pub(crate) fresh: bool,
+    pub fresh: bool,
     /// The most index steps that follow each command by themselves.
-    pub(crate) tick: u64,
+    pub tick: u64,
     /// The number from which the script is drawn. None where the script is read.
-    pub(crate) make: Option<u64>,
+    pub make: Option<u64>,
     /// The name of its file.
-    pub(crate) store: &'a str,
+    pub store: &'a str,
     /// The spaces, in the order of the words. No two have the same name.
-    pub(crate) spaces: Vec<SpaceFile<'a>>,
+    pub spaces: Vec<SpaceFile<'a>>,
 }
 
 /// A space that the words name.
 #[derive(Debug, Drop)]
-pub(crate) struct SpaceFile<'a> {
+pub struct SpaceFile<'a> {
     /// Its name.
-    pub(crate) name: Name,
+    pub name: Name,
     /// The file of its documents.
-    pub(crate) file: &'a str,
+    pub file: &'a str,
 }
 
 /// Why the words aren't read.
 #[derive(Clone, Copy, Debug, PartialEq, Eq)]
-pub(crate) enum WordsFault {
+pub enum WordsFault {
     /// They don't fit the usage.
     Usage,
-    /// Memory ran out.
+    /// Memory ran out. Of the words nothing is said then.
     Memory,
 }
 
 impl From<AllocError> for WordsFault {
     ghost use Rattle.std.specs.Prelude.{◌≡◌};
-    ghost use Rattle.hac_top.specs.declared.words.WordsFault.TheVariants.{Memory};
+    ghost use Rattle.command_line.specs.declared.words.WordsFault.TheVariants.{Memory};
 
     ghost from_gives = { λ _ fault. fault ≡ Memory };
 
@@ -64,7 +64,7 @@ impl From<AllocError> for WordsFault {
 }
 
 impl From<clap::Error> for WordsFault {
-    ghost use Rattle.hac_top.specs.Words.{fault_by};
+    ghost use Rattle.command_line.specs.Words.{fault_by};
     ghost use Rattle.std.specs.Prelude.{◌≡◌};
     ghost use Rattle.clap.specs.Words.{kind_of};
 
@@ -78,8 +78,10 @@ impl From<clap::Error> for WordsFault {
     }
 }
 
-/// What the words of the program ask for, behind its own name.
-pub(crate) fn read_words(alloc: Global, words: &[String]) -> Result<Options<'_>, WordsFault>
+/// What the words of the program ask for: `[--new] [--tick N] [--make NUMBER] STORE
+/// [NAME=FILE]...`, without the program's own name in front. No file is opened, so each may be
+/// missing.
+pub fn read_words(alloc: Global, words: &[String]) -> Result<Options<'_>, WordsFault>
     ensures read { IfOk result (λ asked. options (map string_bytes words.now)
         ≡ Some (asked_of asked)) }
     ensures usage { IfErr result (λ fault. fault ≡ WordsFault.Usage

@@ -1,8 +1,8 @@
 use Rattle.std.proofs.Common.{◌≡◌}
 use Rattle.std.specs.Prelude.{drop}
 use Rattle.hac_model.specs.Script.CommandLine.{names_differ}
-use Rattle.hac_top.proofs.WordSpaces.{names}
-use Rattle.hac_top.proofs.words.names_differ.Given as goal
+use Rattle.command_line.proofs.WordSpaces.{names}
+use Rattle.command_line.proofs.words.names_differ.Given as goal
 
 -- the names differ where those that are left do
 abbrev pub invariant-loop-at : goal.invariant-loop-at

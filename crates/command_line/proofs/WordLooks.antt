@@ -11,7 +11,7 @@ use Rattle.clap.specs.Kinds.{Kinds, or_else}
 use Rattle.clap.specs.Faults.{bundle_step_fault, flags_fault, word_fault}
 use Rattle.clap.specs.Simple.{Shape, built}
 use Rattle.clap.specs.Walk.{Held, Row, Rule, Text, Waiting, idle, option, positional, plain_word, word_met}
-use Rattle.hac_top.specs.Words.{hac}
+use Rattle.command_line.specs.Words.{hac}
 
 -- the command as the library completes it, and its arguments
 abbrev pub top : Shape

@@ -1,7 +1,7 @@
 use Rattle.std.proofs.Common.{◌∙◌, ◌+◌, arith, rules, sym}
 use Rattle.std.proofs.lemmas.List.{take_rest}
-use Rattle.hac_top.proofs.WordSpaces.{differ-end, named-again, named-once}
-use Rattle.hac_top.proofs.words.names_differ.Goals as goal
+use Rattle.command_line.proofs.WordSpaces.{differ-end, named-again, named-once}
+use Rattle.command_line.proofs.words.names_differ.Goals as goal
 
 pub returns-then-is_named : goal.returns-then-is_named
 returns-then-is_named c =

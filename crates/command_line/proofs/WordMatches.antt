@@ -15,12 +15,12 @@ use Rattle.clap.specs.Words.{HasKind, HasMatchesOf, found_of, first_value, is_si
 use Rattle.clap.specs.declared.error.Error.{Error}
 use Rattle.clap.specs.declared.parser.matches.ArgMatches.{ArgMatches}
 use Rattle.clap.proofs.WalkLemmas.{first_value-rows, one_text-rows, raw_values-rows}
-use Rattle.hac_top.specs.Words.{fault_by, hac, values_of}
-use Rattle.hac_top.specs.declared.words.WordsFault.{WordsFault}
-use Rattle.hac_top.specs.declared.words.WordsFault.TheVariants.{Memory, Usage}
-use Rattle.hac_top.proofs.WordLooks.{Valued, has_fault, make_value, name_of, tick_value}
-use Rattle.hac_top.proofs.WordLemmas.{Finds, texts_of, words-found}
-use Rattle.hac_top.proofs.WordRowLemmas.{so_far}
+use Rattle.command_line.specs.Words.{fault_by, hac, values_of}
+use Rattle.command_line.specs.declared.words.WordsFault.{WordsFault}
+use Rattle.command_line.specs.declared.words.WordsFault.TheVariants.{Memory, Usage}
+use Rattle.command_line.proofs.WordLooks.{Valued, has_fault, make_value, name_of, tick_value}
+use Rattle.command_line.proofs.WordLemmas.{Finds, texts_of, words-found}
+use Rattle.command_line.proofs.WordRowLemmas.{so_far}
 
 -- each word is text
 all-text : {Z : Type 0} (words : List (String Z)) → AllByRecursion IsUtf8 (map string_bytes words)

@@ -8,10 +8,10 @@ use Rattle.clap.specs.declared.builder.value_parser.ValueParser.TheVariants.{Non
 use Rattle.clap.specs.declared.error.kind.ErrorKind.{ErrorKind}
 use Rattle.clap.specs.declared.error.kind.ErrorKind.TheVariants.{OutOfMemory}
 use Rattle.hac_model.specs.Script.CommandLine as line
-use Rattle.hac_top.specs.declared.words.Options.{Options}
-use Rattle.hac_top.specs.declared.words.SpaceFile.{SpaceFile}
-use Rattle.hac_top.specs.declared.words.WordsFault.{WordsFault}
-use Rattle.hac_top.specs.declared.words.WordsFault.TheVariants.{Memory, Usage}
+use Rattle.command_line.specs.declared.words.Options.{Options}
+use Rattle.command_line.specs.declared.words.SpaceFile.{SpaceFile}
+use Rattle.command_line.specs.declared.words.WordsFault.{WordsFault}
+use Rattle.command_line.specs.declared.words.WordsFault.TheVariants.{Memory, Usage}
 
 -- what was read, as the definition has it
 abbrev pub space_asked : SpaceFile → line.Space

@@ -7,8 +7,8 @@ use Rattle.std.specs.Str.{bytes_eq}
 use Rattle.std.proofs.lemmas.List.{at_drop_more, drop_all, length-map, map-append}
 use Rattle.hac_model.specs.Script.CommandLine.{Space, each_space, may_stand, names_differ, space_of}
 use Rattle.hac_model.specs.declared.limits.TheConstants.{SPACES_LIMIT}
-use Rattle.hac_top.specs.Words.{space_asked, spaces_asked}
-use Rattle.hac_top.specs.declared.words.SpaceFile.{SpaceFile}
+use Rattle.command_line.specs.Words.{space_asked, spaces_asked}
+use Rattle.command_line.specs.declared.words.SpaceFile.{SpaceFile}
 
 abbrev pub names : List SpaceFile → List (List ℕ)
 names = map (λ space. space.name)
