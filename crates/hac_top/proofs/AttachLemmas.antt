@@ -1,14 +1,15 @@
 -- Spaces attached one after the other.
 use Rattle.std.proofs.Common.{◌≡◌, ◌∙◌, ℕ, ◌+◌, ◌<◌, Bool, true, false, List, [], ◌∷◌, ◌++◌, length, take, drop, get_or, Option, None, Some, Ok, Err, refl, sym, ap, ap₂, subst, append_assoc, append-nil, arith}
-use Rattle.std.specs.Prelude.{◌||◌, ◌&&◌, not, if◌then◌else◌, is_ok, nat_le, Result}
+use Rattle.std.specs.Prelude.{◌||◌, ◌&&◌, not, if◌then◌else◌, is_ok, Result}
 use Rattle.std.specs.List.{AllByRecursion, list_any}
 use Rattle.std.specs.Map.{lookup}
 use Rattle.std.specs.Option.{option_and_then, option_map}
 use Rattle.std.specs.Str.{bytes_eq}
 use Rattle.std.proofs.lemmas.List.{length-map, length-take-le, map-append, map_more, take-append-drop}
 use Rattle.std.proofs.lemmas.Slice.Eq.{bytes_eq-Decides}
-use Rattle.hac_model.specs.Script.CommandLine.{Options, Parsed, Space, asked_by, each_space, fresh_of, given_by, make_of, may_stand, names_differ, options, spaces_of, store_of, tick_of}
-use Rattle.hac_model.specs.declared.limits.TheConstants.{SPACES_LIMIT}
+use Rattle.hac_model.specs.Script.CommandLine.{Space, names_differ}
+use Rattle.command_line.specs.Words.{space_asked, spaces_asked}
+use Rattle.command_line.specs.declared.words.SpaceFile.{SpaceFile}
 use Rattle.hac_outside.specs.Causes.{Rose}
 use Rattle.hac_outside.specs.Known.{Known}
 use Rattle.hac_model.specs.Spaces.Catalogue.{Document, catalogue}
@@ -17,9 +18,7 @@ use Rattle.sem_mounts.specs.declared.faults.AttachFault.{AttachFault}
 use Rattle.sem_mounts.specs.declared.faults.AttachFault.TheVariants as attach
 use Rattle.hac_top.specs.Ends.{is_bad_space}
 use Rattle.hac_top.specs.Spaces.{AttachesAll, AttachesUpTo, CanAttach, HasAttached, IsCatalogue, StopsAttaching, attach_status, names_of, said_by_documents, said_by_file}
-use Rattle.hac_top.specs.Words.{space_asked, spaces_asked}
 use Rattle.hac_top.specs.declared.status.Status.{Status}
-use Rattle.hac_top.specs.declared.words.SpaceFile.{SpaceFile}
 
 -- nothing was attached yet
 all-none : (contents : Option Contents) → Known (AttachesAll []) contents contents
@@ -181,39 +180,6 @@ attach-stops files i file below is old now new has (Err other) fault failed name
       contents = known-stopped (spaces_asked (take i files)) (space_asked file) other old.contents now.contents new.contents has.contents contents;
       cause = subst (λ (n : ℕ). CountsFault (is_attach_failed {A = Unit {0}} (Err other)) n new.faults) has.faults cause;
     })
-
--- what is asked for has the spaces that the words give
-asked-spaces : (fresh : Option Bool) (tick : Option ℕ) (make : Option (Option ℕ)) (store : Option (List ℕ)) (spaces : Option (List Space)) (asked : Options) →
-    option_and_then (λ fresh. option_and_then (λ tick. option_and_then (λ make. option_and_then (λ store. option_map (λ spaces.
-    record { fresh = fresh; tick = tick; make = make; store = store; spaces = spaces }) spaces) store) make) tick) fresh ≡ Some asked →
-    spaces ≡ Some asked.spaces
-asked-spaces None tick make store spaces asked is = absurd cc
-asked-spaces (Some fresh) None make store spaces asked is = absurd cc
-asked-spaces (Some fresh) (Some tick) None store spaces asked is = absurd cc
-asked-spaces (Some fresh) (Some tick) (Some make) None spaces asked is = absurd cc
-asked-spaces (Some fresh) (Some tick) (Some make) (Some store) None asked is = absurd cc
-asked-spaces (Some fresh) (Some tick) (Some make) (Some store) (Some spaces) asked is = ap (option_map (λ (o : Options). o.spaces)) is
-
--- those that may stand together have different names
-stand-differ : (read : Option (List Space)) (spaces : List Space) → option_and_then (λ spaces. if may_stand spaces then Some spaces else None) read ≡ Some spaces → names_differ (names_of spaces) ≡ true
-stand-differ None spaces is = absurd cc
-stand-differ (Some read) spaces is = by (nat_le (length read) SPACES_LIMIT) (names_differ (names_of read)) refl is
-  where
-    by : (few differ : Bool) → names_differ (names_of read) ≡ differ → (if few && differ then Some read else None) ≡ Some spaces → names_differ (names_of spaces) ≡ true
-    by false differ differ_is given = absurd cc
-    by true false differ_is given = absurd cc
-    by true true differ_is given = let same : read ≡ spaces = cc in subst (λ (found : List Space). names_differ (names_of found) ≡ true) same differ_is
-
--- the names of the spaces that words ask for differ
-pub asked-differ : (words : List (List ℕ)) (asked : Options) → options words ≡ Some asked → names_differ (names_of asked.spaces) ≡ true
-unfolding options
-asked-differ words asked is = by (given_by words) is
-  where
-    by : (given : Option Parsed) → option_and_then asked_by given ≡ Some asked → names_differ (names_of asked.spaces) ≡ true
-    by None is = absurd cc
-    by (Some given) is =
-        stand-differ (each_space (drop 1 given.names)) asked.spaces
-        (asked-spaces (fresh_of given.news) (tick_of given.ticks) (make_of given.makes) (store_of given.names) (spaces_of (drop 1 given.names)) asked is)
 
 -- a fact of each is one of that one
 at-middle : (P : Space → Type 0) (front behind : List Space) (space : Space) → AllByRecursion P (front ++ space ∷ behind) → P space

@@ -18,9 +18,3 @@ pub mod AttachLemmas
 pub mod UnattachedLemmas
 pub mod CountsLemmas
 pub mod MakingLemmas
-pub mod GeneratingLemmas
-pub mod WordSpaces
-pub mod WordLooks
-pub mod WordRowLemmas
-pub mod WordLemmas
-pub mod WordMatches

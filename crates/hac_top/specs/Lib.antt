@@ -11,4 +11,3 @@ pub mod Run
 pub mod Spaces
 pub mod Storing
 pub mod Ticking
-pub mod Words

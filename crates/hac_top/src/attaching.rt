@@ -3,10 +3,10 @@
 ghost use Rattle.std.specs.Prelude.{◌≡◌, [], true, IfErr, OnOk};
 ghost use Rattle.hac_model.specs.Script.CommandLine.{names_differ};
 ghost use Rattle.hac_top.specs.Spaces.{HasAttached, StopsAttaching, attach_status, names_of};
-ghost use Rattle.hac_top.specs.Words.{spaces_asked};
+ghost use Rattle.command_line.specs.Words.{spaces_asked};
 
 use crate::status::Status;
-use crate::words::SpaceFile;
+use command_line::SpaceFile;
 use sem_mounts::{AttachFault, Spaces};
 
 /// Attaches each space with the documents of its file, in their order, up to the first that can't

@@ -7,7 +7,6 @@ mod answering;
 mod attaching;
 mod deciding;
 mod devices;
-mod generating;
 mod making;
 mod opening;
 mod playing;
@@ -16,8 +15,6 @@ mod status;
 mod storing;
 mod taking;
 mod ticking;
-mod words;
 
-pub use generating::make_script;
 pub use running::run;
 pub use status::Status;

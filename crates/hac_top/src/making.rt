@@ -8,7 +8,6 @@ ghost use Rattle.hac_top.specs.Making.{MakesStore, PlaysMade, TellsLeft, counts_
 
 use crate::answering::Player;
 use crate::devices::{ScriptSource, Unwritten};
-use crate::generating::make_script;
 use crate::playing::{end_status, play_script};
 use crate::status::Status;
 use hac_core::Machine;
@@ -16,6 +15,7 @@ use hac_disk::Disk;
 use hac_model::{Answers, Command, Deny, Line, Memory, Name, Reply, Seq};
 use hac_outside::Sink;
 use hac_store::Store;
+use script_maker::make_script;
 use sem_mounts::Spaces;
 use std::alloc::Global;
 

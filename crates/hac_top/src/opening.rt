@@ -11,10 +11,10 @@ ghost use Rattle.hac_top.specs.Attaching.{AttachesStore, MayAttach};
 ghost use Rattle.hac_top.specs.Crashes.{IsOpened, Reopens, StopsOpening, opening_outcome};
 ghost use Rattle.hac_top.specs.Crashes.{opening_result};
 ghost use Rattle.hac_top.specs.Ends.{reports_disk};
-ghost use Rattle.hac_top.specs.Words.{asked_of};
+ghost use Rattle.command_line.specs.Words.{asked_of};
 
 use crate::status::{Status, store_status};
-use crate::words::Options;
+use command_line::Options;
 use hac_disk::Disk;
 use hac_store::{Store, StoreFault};
 use std::alloc::Global;

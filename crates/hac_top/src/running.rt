@@ -18,7 +18,7 @@ ghost use Rattle.hac_top.specs.Making.{IfMakes, Makes, Tells};
 ghost use Rattle.hac_top.specs.Run.{AppendsSome, Ends, EndsSo, IfOpened, IfOpens, IsFaultless};
 ghost use Rattle.hac_top.specs.Run.{Ran, RefusesWords, outside, usage_line};
 ghost use Rattle.hac_top.specs.Spaces.{CanAttach, LeavesSpaces};
-ghost use Rattle.hac_top.specs.Words.{asked_of};
+ghost use Rattle.command_line.specs.Words.{asked_of};
 
 use crate::answering::write_now;
 use crate::attaching::attach_spaces;
@@ -26,7 +26,7 @@ use crate::making::make_store;
 use crate::opening::open_store;
 use crate::playing::play_store;
 use crate::status::Status;
-use crate::words::{Options, WordsFault, read_words};
+use command_line::{Options, WordsFault, read_words};
 use hac_disk::Disk;
 use hac_outside::{Sink, Source};
 use sem_mounts::Spaces;

@@ -1,6 +1,6 @@
 use Rattle.std.proofs.Common.{◌≡◌, ◌∙◌, ℕ, ◌+◌, ap, refl, sym, subst}
 use Rattle.hac_top.specs.Spaces.{StopsAttaching, attach_status}
-use Rattle.hac_top.specs.Words.{spaces_asked}
+use Rattle.command_line.specs.Words.{spaces_asked}
 use Rattle.hac_top.specs.declared.status.Status.{Status}
 use Rattle.hac_top.proofs.AttachLemmas.{attach-stops, attached-next, attached-none, unattached}
 use Rattle.hac_top.proofs.attaching.attach_spaces.Goals as goal

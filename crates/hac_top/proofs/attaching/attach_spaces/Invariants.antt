@@ -1,6 +1,6 @@
 use Rattle.std.proofs.Common.{◌≡◌, take}
 use Rattle.hac_top.specs.Spaces.{HasAttached}
-use Rattle.hac_top.specs.Words.{spaces_asked}
+use Rattle.command_line.specs.Words.{spaces_asked}
 use Rattle.hac_top.proofs.attaching.attach_spaces.Given as goal
 
 -- the spaces so far are attached, and no other

@@ -7,7 +7,7 @@ use Rattle.hac_store.specs.Held.{held}
 use Rattle.hac_store.specs.Stores as store
 use Rattle.hac_store.specs.declared.fault.StoreFault.TheVariants as fault
 use Rattle.hac_store.specs.Stores.{Stands}
-use Rattle.hac_top.specs.Words.{asked_of}
+use Rattle.command_line.specs.Words.{asked_of}
 use Rattle.hac_top.proofs.OpenedLemmas.{opens-attached, opens-new, opens-quiet}
 use Rattle.hac_top.proofs.OpeningLemmas.{attach-then, loaded-opened, loaded-quiet, loaded-stands, made-opened, made-quiet, made-stands, opened-faults, quiet-then, where-fine}
 use Rattle.hac_top.proofs.opening.open_store.Goals as goal

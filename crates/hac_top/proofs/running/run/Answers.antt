@@ -5,8 +5,9 @@ use Rattle.hac_model.specs.Script.CommandLine.{options}
 use Rattle.hac_top.specs.Ends.{IsStoreStatus}
 use Rattle.hac_top.specs.Run.{IsFaultless, outside}
 use Rattle.hac_top.specs.Spaces.{CanAttach, HasAttached, StopsAttaching}
-use Rattle.hac_top.specs.Words.{asked_of, spaces_asked}
-use Rattle.hac_top.proofs.AttachLemmas.{asked-differ, not-bad}
+use Rattle.command_line.specs.Words.{asked_of, spaces_asked}
+use Rattle.command_line.proofs.WordNames.{asked-differ}
+use Rattle.hac_top.proofs.AttachLemmas.{not-bad}
 use Rattle.hac_top.proofs.MakingLemmas.{made-given, made-unattached, memory-made}
 use Rattle.hac_top.proofs.UnattachedLemmas.{is-unattached, memory-attached, memory-quiet, memory-ran, memory-spaces, own-good, own-spaces, ran-given, ran-unattached, stopped-later, stopped-spaces, told-good, unattached-disk, unattached-ends, unattached-file, unattached-names, unattached-quiet, unattached-usage}
 use Rattle.hac_top.proofs.running.run.Goals as goal

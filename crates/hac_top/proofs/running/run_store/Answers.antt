@@ -2,7 +2,7 @@ use Rattle.std.proofs.Common.{◌∙◌, ap, refl, sym, arith, rules, true≢fal
 use Rattle.std.specs.Prelude.{is_some}
 use Rattle.hac_disk.specs.Contents.{IsSettled}
 use Rattle.hac_top.specs.Run.{outside}
-use Rattle.hac_top.specs.Words.{asked_of}
+use Rattle.command_line.specs.Words.{asked_of}
 use Rattle.hac_top.proofs.MakingLemmas.{made-ends, made-unopened, makes-opened}
 use Rattle.hac_top.proofs.OpenedLemmas.{ran-opened, ran-unopened}
 use Rattle.hac_top.proofs.UnattachedLemmas.{opened-attached, opened-own, unopened-attached, unopened-own}

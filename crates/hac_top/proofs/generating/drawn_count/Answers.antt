@@ -1,7 +1,0 @@
-use Rattle.std.proofs.Common.{refl}
-use Rattle.hac_model.specs.Script.Generator.{drawn_count}
-use Rattle.hac_top.proofs.generating.drawn_count.Goals as goal
-
-pub returns : goal.returns
-unfolding drawn_count
-returns c = refl
