@@ -1,1 +1,2 @@
 pub mod GeneratingLemmas
+pub mod ShortLemmas

@@ -3,5 +3,6 @@
 #![tactic(auto)]
 
 mod generating;
+pub mod laws;
 
 pub use generating::make_script;
