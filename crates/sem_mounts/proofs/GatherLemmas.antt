@@ -13,9 +13,9 @@ use Rattle.std.proofs.lemmas.List.Sums.{take_while-cons}
 use Rattle.std.proofs.lemmas.Map.Made.{is_some-lookup}
 use Rattle.hac_model.specs.declared.spaces.Asks.{Asks}
 use Rattle.hac_model.specs.declared.spaces.Search.{Search}
-use Rattle.hac_model.specs.Spaces.Answering.{AreRisingNames}
+use Rattle.hac_model.specs.Spaces.Answering.{AreRisingNames, asked_spaces, documents_in}
 use Rattle.hac_model.specs.Spaces.Catalogue.{Document}
-use Rattle.sem_mounts.specs.Gathering.{AreGathered, Ends, asked_spaces, documents_in, first_absent}
+use Rattle.sem_mounts.specs.Gathering.{AreGathered, Ends, first_absent}
 use Rattle.sem_mounts.specs.Gathering.{is_space_fault}
 use Rattle.sem_mounts.specs.Seen.{Contents, CountsFault, IsSaid, SpacesSeen, is_attached}
 use Rattle.sem_mounts.specs.declared.gathering.GatherFault.{GatherFault}
@@ -151,7 +151,7 @@ pub told : {X : Type 0} (spaces : SpacesSeen) (name : List ℕ) (says : List Doc
     IfSome spaces.contents (λ contents. spaces.attached ≡ map (λ space. space.0) contents.spaces) →
     false ≡ not (is_attached spaces name) →
     IsSaid spaces name says answer → IfSome spaces.contents (λ contents. answer ≡ says (documents_in
-    contents name))
+    contents.spaces name))
 told {X} spaces name says answer law attached said = by spaces.contents law said where
   some : (documents : Option (List Document)) → is_some documents ≡ true →
       IfSome documents (λ documents. answer ≡ says documents) →
@@ -167,7 +167,7 @@ told {X} spaces name says answer law attached said = by spaces.contents law said
       space.0) contents.spaces) →
       IfSome (option_and_then (λ contents. lookup (bytes_eq name) contents.spaces) contents) (λ
       documents. answer ≡ says documents) →
-      IfSome contents (λ contents. answer ≡ says (documents_in contents name))
+      IfSome contents (λ contents. answer ≡ says (documents_in contents.spaces name))
   by None law said = tt
   by (Some contents) law said =
       some (lookup (bytes_eq name) contents.spaces)

@@ -1,52 +1,25 @@
 -- What is asked of spaces, what their documents answer, and how the asking ends.
 use Rattle.std.specs.Prelude.{◌≡◌, ⊤, ℕ, Bool, true, false, not, IfNone, IfSome, IsTrue, List, []}
-use Rattle.std.specs.Prelude.{◌++◌, length, map, Option, None, Some, Result, Ok, Err}
+use Rattle.std.specs.Prelude.{length, Option, None, Some, Result, Ok, Err}
 use Rattle.std.specs.List.{find, list_any, take_while}
-use Rattle.std.specs.Map.{lookup}
-use Rattle.std.specs.Option.{option_and_then, option_map, option_to_list, unwrap_or}
 use Rattle.std.specs.Str.{bytes_eq}
 use Rattle.hac_model.specs.declared.spaces.Answers.{Answers}
 use Rattle.hac_model.specs.declared.spaces.Asks.{Asks}
-use Rattle.hac_model.specs.Spaces.Answering.{AreRisingNames, names_with, text_at}
-use Rattle.hac_model.specs.Spaces.Catalogue.{Document, names}
-use Rattle.sem_mounts.specs.Seen.{Contents, CountsFault, SpacesSeen, is_attached}
+use Rattle.hac_model.specs.Spaces.Answering.{AreRisingNames, answers_of}
+use Rattle.sem_mounts.specs.Seen.{CountsFault, SpacesSeen, is_attached}
 use Rattle.sem_mounts.specs.declared.faults.SpaceFault.{SpaceFault}
 use Rattle.sem_mounts.specs.declared.faults.SpaceFault.TheVariants as space
 use Rattle.sem_mounts.specs.declared.gathering.GatherFault.{GatherFault}
 use Rattle.sem_mounts.specs.declared.gathering.GatherFault.TheVariants as gather
 
--- the documents of the space of this name; a space that isn't attached has none
-abbrev pub documents_in : Contents → List ℕ → List Document
-documents_in contents name = unwrap_or (lookup (bytes_eq name) contents.spaces) []
-
--- what the documents answer: the names of those of the listed space, for each term the names of
--- those that have it, and
--- the text of the one that is fetched
-abbrev pub answers_of : Contents → Asks → Answers
-answers_of contents asks = record {
-  list = unwrap_or (option_map (λ space. names (documents_in contents space)) asks.list) [];
-  found = map (λ question. names_with (documents_in contents question.space) question.term)
-      asks.searches;
-  fetched = option_and_then (λ fetch. text_at (documents_in contents fetch.space) fetch.document)
-      asks.fetch;
-}
-
--- the answers are those of the documents, if these are told; else the list still rises, and there
--- is one answer to each
+-- the answers are those of the documents, if these are told; else the list still rises, and there is one answer to each
 -- question
 pub record AreAnswers (spaces : SpacesSeen) (asks : Asks) (answers : Answers) : Type 0 where
   pub rising : AreRisingNames answers.list
   pub unlisted : IfNone asks.list (answers.list ≡ [])
   pub found : length answers.found ≡ length asks.searches
   pub unfetched : IfNone asks.fetch (answers.fetched ≡ None)
-  pub said : IfSome spaces.contents (λ contents. answers ≡ answers_of contents asks)
-
--- the spaces that the questions are to, in their order
-abbrev pub asked_spaces : Asks → List (List ℕ)
-asked_spaces asks =
-    option_to_list asks.list
-    ++ (map (λ question. question.space) asks.searches ++ option_to_list (option_map (λ fetch.
-    fetch.space) asks.fetch))
+  pub said : IfSome spaces.contents (λ contents. answers ≡ answers_of contents.spaces asks)
 
 -- the first of these spaces that isn't attached
 abbrev pub first_absent : SpacesSeen → List (List ℕ) → Option (List ℕ)
@@ -63,9 +36,8 @@ abbrev pub is_space_fault : {A : Type 0} → Result A GatherFault → Bool
 is_space_fault (Err (gather.SpaceFault name)) = true
 is_space_fault other = false
 
--- how questions to these spaces end: each has an answer, as all of them are attached; or the first
--- that isn't attached
--- is named, or one before it that failed; or memory ran out
+-- how questions to these spaces end: each has an answer, as all of them are attached; or the first that isn't attached is
+-- named, or one before it that failed; or memory ran out
 abbrev pub Ends : {A : Type 0} → SpacesSeen → List (List ℕ) → Result A GatherFault → Type 0
 Ends spaces asked (Ok answers) = first_absent spaces asked ≡ None
 Ends spaces asked (Err (gather.NoSpace name)) = first_absent spaces asked ≡ Some name
@@ -73,12 +45,9 @@ Ends spaces asked (Err (gather.SpaceFault name)) =
     IsTrue (list_any (bytes_eq name) (take_while (is_attached spaces) asked))
 Ends spaces asked (Err gather.Memory) = ⊤
 
--- these spaces were asked in their order up to the first fault: all is as before but the faults.
--- Only the last question
--- may have failed: its failure is the one fault more, and no other question failed, neither before
--- it nor behind
-pub record AreGathered {A : Type 0} (old new : SpacesSeen) (asked : List (List ℕ)) (result : Result
-    A GatherFault) : Type 0 where
+-- these spaces were asked in their order up to the first fault: all is as before but the faults. Only the last question may
+-- have failed: its failure is the one fault more, and no other question failed, neither before it nor behind
+pub record AreGathered {A : Type 0} (old new : SpacesSeen) (asked : List (List ℕ)) (result : Result A GatherFault) : Type 0 where
   pub attached : new.attached ≡ old.attached
   pub contents : new.contents ≡ old.contents
   pub cause : CountsFault (is_space_fault result) old.faults new.faults

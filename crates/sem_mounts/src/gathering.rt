@@ -1,10 +1,10 @@
 //! The questions of one command, asked of spaces in their order.
 ghost use Rattle.std.specs.Prelude.{◌≡◌, ◌∷◌, [], IfNone, IfOk, IfSome, None, length, map};
 ghost use Rattle.std.specs.Option.{option_and_then, option_map, option_to_list, unwrap_or};
-ghost use Rattle.hac_model.specs.Spaces.Answering.{AreRisingNames, names_with, text_at};
+ghost use Rattle.hac_model.specs.Spaces.Answering.{AreRisingNames, asked_spaces, documents_in};
+ghost use Rattle.hac_model.specs.Spaces.Answering.{names_with, text_at};
 ghost use Rattle.hac_model.specs.Spaces.Catalogue.{names};
-ghost use Rattle.sem_mounts.specs.Gathering.{AreAnswers, AreGathered, asked_spaces, documents_in};
-ghost use Rattle.sem_mounts.specs.Gathering.{gather_fault};
+ghost use Rattle.sem_mounts.specs.Gathering.{AreAnswers, AreGathered, gather_fault};
 
 use crate::entries::{copy_of, push};
 use crate::faults::SpaceFault;
@@ -64,7 +64,7 @@ fn list_asked<P: Spaces>(
     ensures rising { IfOk result AreRisingNames }
     ensures none { IfOk result (λ found. IfNone list.now (found ≡ [])) }
     ensures said { IfOk result (λ found. IfSome (P.seen spaces.old).contents (λ contents.
-        found ≡ unwrap_or (option_map (λ space. names (documents_in contents space)) list.now)
+        found ≡ unwrap_or (option_map (λ space. names (documents_in contents.spaces space)) list.now)
         [])) }
 {
     match list {
@@ -77,7 +77,7 @@ fn list_one<P: Spaces>(spaces: &mut P, name: &Name) -> Result<Seq<Name>, GatherF
     ensures asked { AreGathered (P.seen spaces.old) (P.seen spaces.new) (name.now ∷ []) result }
     ensures rising { IfOk result AreRisingNames }
     ensures said { IfOk result (λ found. IfSome (P.seen spaces.old).contents (λ contents.
-        found ≡ names (documents_in contents name.now))) }
+        found ≡ names (documents_in contents.spaces name.now))) }
 {
     let asked = copy_of(name)?;
     match spaces.list(name) {
@@ -97,7 +97,7 @@ fn search_all<P: Spaces>(
     ensures count { IfOk result (λ found. length found ≡ length searches.now) }
     ensures said { IfOk result (λ found. IfSome (P.seen spaces.old).contents (λ contents.
         found ≡ map (λ question.
-        names_with (documents_in contents question.space) question.term)
+        names_with (documents_in contents.spaces question.space) question.term)
         searches.now)) }
 {
     let mut found = Vec::new(alloc);
@@ -111,7 +111,7 @@ fn search_one<P: Spaces>(spaces: &mut P, question: &Search) -> Result<Seq<Name>,
     ensures asked { AreGathered (P.seen spaces.old) (P.seen spaces.new) (question.now.space ∷ [])
         result }
     ensures said { IfOk result (λ found. IfSome (P.seen spaces.old).contents (λ contents.
-        found ≡ names_with (documents_in contents question.now.space) question.now.term)) }
+        found ≡ names_with (documents_in contents.spaces question.now.space) question.now.term)) }
 {
     let asked = copy_of(&question.space)?;
     match spaces.search(&question.space, &question.term) {
@@ -130,7 +130,7 @@ fn fetch_asked<P: Spaces>(
     ensures none { IfOk result (λ text. IfNone fetch.now (text ≡ None)) }
     ensures said { IfOk result (λ text. IfSome (P.seen spaces.old).contents (λ contents.
         text ≡ option_and_then (λ fetch.
-        text_at (documents_in contents fetch.space) fetch.document) fetch.now)) }
+        text_at (documents_in contents.spaces fetch.space) fetch.document) fetch.now)) }
 {
     match fetch {
         Some(fetch) => fetch_one(spaces, fetch),
@@ -142,7 +142,7 @@ fn fetch_one<P: Spaces>(spaces: &mut P, fetch: &Fetch) -> Result<Option<Text>, G
     ensures asked { AreGathered (P.seen spaces.old) (P.seen spaces.new) (fetch.now.space ∷ [])
         result }
     ensures said { IfOk result (λ text. IfSome (P.seen spaces.old).contents (λ contents.
-        text ≡ text_at (documents_in contents fetch.now.space) fetch.now.document)) }
+        text ≡ text_at (documents_in contents.spaces fetch.now.space) fetch.now.document)) }
 {
     let asked = copy_of(&fetch.space)?;
     match spaces.fetch(&fetch.space, &fetch.document) {

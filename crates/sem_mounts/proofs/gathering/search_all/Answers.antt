@@ -1,8 +1,7 @@
 -- Each question leads on to the next, or stops all.
 use Rattle.std.proofs.Common.{◌≡◌, ℕ, ◌+◌, Err, ◌∙◌, ap, length, rules}
 use Rattle.std.proofs.lemmas.List.{length_push}
-use Rattle.hac_model.specs.Spaces.Answering.{names_with}
-use Rattle.sem_mounts.specs.Gathering.{documents_in}
+use Rattle.hac_model.specs.Spaces.Answering.{documents_in, names_with}
 use Rattle.sem_mounts.proofs.GatherLemmas.{next-asked, next-said, next-stops}
 use Rattle.sem_mounts.proofs.gathering.search_all.Goals as goal
 
@@ -28,7 +27,7 @@ loop-question-preserved g c =
           c.loop-question-test.true c.question-item.is was.asked given.asked;
       count = ap length c.in_ok-push.ensures.ok ∙ length_push _ _ ∙ ap (λ (n : ℕ). n + 1) was.count;
       said = next-said (seen c.args.spaces.now).contents (seen c.loop-question.spaces).contents (λ
-          contents question. names_with (documents_in contents question.space) question.term)
+          contents question. names_with (documents_in contents.spaces question.space) question.term)
           c.args.searches.now c.loop-question.question-index c.question-item.result
           c.loop-question.found.items c.push.new.list.items c.in_ok-search_one.field-0
           c.loop-question-test.true c.question-item.is was.asked.contents c.in_ok-push.ensures.ok
