@@ -25,7 +25,6 @@ use Rattle.hac_model.specs.declared.spaces.Answers.{Answers}
 use Rattle.hac_model.specs.declared.spaces.Asks.{Asks}
 use Rattle.hac_model.specs.declared.states.State.{State}
 use Rattle.sem_mounts.specs.Gathering.{AreAnswers, AreGathered, first_absent}
-use Rattle.sem_mounts.specs.Gathering as spaces
 use Rattle.sem_mounts.specs.Seen.{Contents, SpacesSeen, is_attached}
 use Rattle.sem_mounts.specs.declared.gathering.GatherFault.{GatherFault}
 use Rattle.sem_mounts.specs.declared.gathering.GatherFault.TheVariants as gather
@@ -66,7 +65,7 @@ abbrev pub AreTold : SpacesSeen → Type 0
 AreTold old = IfSome old.contents (λ contents. old.attached ≡ map (λ space. space.0) contents.spaces)
 
 -- each question has its answer
-pub gathered-decides : (old new : SpacesSeen) (s : State) (draft : DraftSeen) (answers : Answers) (result : Result Decision Memory) → AreTold old → AreGathered old new (spaces.asked_spaces draft.asks) (Ok answers) → AreAnswers old draft.asks answers →
+pub gathered-decides : (old new : SpacesSeen) (s : State) (draft : DraftSeen) (answers : Answers) (result : Result Decision Memory) → AreTold old → AreGathered old new (asked_spaces draft.asks) (Ok answers) → AreAnswers old draft.asks answers →
     IfOk result (CanHappen s) →
     ((command : Resolved) → IsDraftFor s command draft → (attached : List Attached) → answers ≡ answers_of attached draft.asks → model.first_absent attached (asked_spaces draft.asks) ≡ None →
     IfOk result (Decides s (λ setting. command_turn (given_spaces attached) setting (Ok command)))) →
@@ -79,7 +78,7 @@ gathered-decides old new s draft answers result told gathered are happens leads 
       told = λ command for. by command for old.contents told are.said;
     }
   where
-    by : (command : Resolved) → IsDraftFor s command draft → (o : Option Contents) → IfSome o (λ contents. old.attached ≡ map (λ space. space.0) contents.spaces) → IfSome o (λ contents. answers ≡ spaces.answers_of contents draft.asks) →
+    by : (command : Resolved) → IsDraftFor s command draft → (o : Option Contents) → IfSome o (λ contents. old.attached ≡ map (λ space. space.0) contents.spaces) → IfSome o (λ contents. answers ≡ answers_of contents.spaces draft.asks) →
         IfSome o (λ contents. IfSome None (λ space. IsTrue (is_among (askable (given_spaces contents.spaces) s (Ok command)) space))
         × IfOk result (Decides s (λ setting. met_turn contents.spaces None setting command)))
     by command for None told said = search rules
@@ -93,7 +92,7 @@ asks-it attached s command draft space for among =
     (subst (λ (a : Asks). IsTrue (list_any (bytes_eq space) (take_while (model.is_attached attached) (asked_spaces a)))) for.asks among)
 
 -- one has none
-pub fault-decides : (old new : SpacesSeen) (s : State) (draft : DraftSeen) (fault : GatherFault) (result : Result Decision Memory) → AreTold old → AreGathered {A = Answers} old new (spaces.asked_spaces draft.asks) (Err fault) → IsDenial (denial fault) result →
+pub fault-decides : (old new : SpacesSeen) (s : State) (draft : DraftSeen) (fault : GatherFault) (result : Result Decision Memory) → AreTold old → AreGathered {A = Answers} old new (asked_spaces draft.asks) (Err fault) → IsDenial (denial fault) result →
     DecidesDraft old new s draft result
 fault-decides old new s draft (gather.NoSpace name) result told gathered denies =
     record {
