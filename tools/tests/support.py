@@ -22,6 +22,9 @@ from hac_client import find_program, run_tool  # noqa: E402
 
 HAC = find_program()
 
+# A shell has what it runs in the background ignore this signal. The tools that the tests start are to hear it.
+signal.signal(signal.SIGINT, signal.default_int_handler)
+
 
 def load(tool: str) -> ModuleType:
     """A tool's own functions."""

@@ -11,7 +11,6 @@ import random
 import signal
 import subprocess
 import unittest
-from functools import partial
 from pathlib import Path
 from typing import Dict, List, Optional, Tuple, Union
 from unittest.mock import patch
@@ -537,9 +536,7 @@ class Targets(CatalogueTest):
 
         os.mkfifo(self.made / "pipe")
         words = [TOOLS / "hac-catalogue", "--table", self.made / "pipe", self.catalogue]
-        # A shell that starts the tests in the background may have them ignore the signal, and so the tool too.
-        heard = partial(signal.signal, signal.SIGINT, signal.SIG_DFL)
-        with subprocess.Popen(words, stdout=subprocess.PIPE, stderr=subprocess.PIPE, preexec_fn=heard) as run:
+        with subprocess.Popen(words, stdout=subprocess.PIPE, stderr=subprocess.PIPE) as run:
             with open(self.made / "pipe", "wb"):  # It is open when the tool has opened it too.
                 run.send_signal(signal.SIGINT)
                 said = run.communicate()
