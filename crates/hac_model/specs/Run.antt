@@ -9,3 +9,4 @@ pub mod Showing
 pub mod Settings
 pub mod Checkpoints
 pub mod Play
+pub mod Costs

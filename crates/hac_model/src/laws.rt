@@ -23,6 +23,7 @@ ghost use Rattle.hac_model.specs.Laws.{FirstLinks, FirstSteps};
 ghost use Rattle.hac_model.specs.Laws.{FirstEnd, LastNumbers, NoRoot, ValidityIsTested};
 ghost use Rattle.hac_model.specs.Laws.{EventsAreShort, RaisedIsValid, RaisedLinks};
 ghost use Rattle.hac_model.specs.Laws.{StatesAreShort};
+ghost use Rattle.hac_model.specs.Tree.Costs.{FirstCosts};
 
 /// Two joined scripts are played one after the other, where the first one consists of whole lines,
 /// each with its end and the bytes that belong to it. No line looks further ahead, and none looks
@@ -221,6 +222,12 @@ pub fn first_mounts()
 /// A run with an index step behind each command.
 pub fn first_steps()
     ensures { FirstSteps }
+{}
+
+/// What three events cost in a small state: a file that gets another text, the step that indexes it,
+/// and a new semantic directory.
+pub fn first_costs()
+    ensures { FirstCosts }
 {}
 
 /// A run over a full store, where the store of a small run ends, where checkpoints write, and the

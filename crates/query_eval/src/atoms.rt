@@ -5,20 +5,8 @@ use hac_model::{Number, Term};
 use hac_outside::Steps;
 use std::sync::ledger::Ledger;
 
-/// Knows which terms items have.
-pub trait Atoms {
-    ghost use Rattle.hac_model.specs.declared.terms.Term.{Term};
-
-    /// That the item has the term.
-    ghost atoms: { Self → Term → ℕ → Bool };
-
-    /// Whether the item has the term.
-    fn has(&self, term: &Term, item: Number) -> bool
-        ensures { result ≡ atoms self.now term.now item };
-}
-
 /// Knows which terms items have, and counts each question.
-pub trait CountedAtoms {
+pub trait Atoms {
     ghost use Rattle.hac_model.specs.declared.terms.Term.{Term};
 
     /// That the item has the term.

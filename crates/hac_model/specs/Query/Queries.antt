@@ -30,6 +30,10 @@ sum_leaves of_term of_dir (query.Not query) = sum_leaves of_term of_dir query
 sum_leaves of_term of_dir (query.And left right) = sum_leaves of_term of_dir left + sum_leaves of_term of_dir right
 sum_leaves of_term of_dir (query.Or left right) = sum_leaves of_term of_dir left + sum_leaves of_term of_dir right
 
+-- how many words and beginnings of words a query has
+abbrev pub terms : {D : Type 0} → Formula D → ℕ
+terms query = sum_leaves (λ term. 1) (λ dir. 0) query
+
 -- the directories that a query names, in its order
 abbrev pub named_in : {D : Type 0} → Formula D → List D
 named_in (query.Term term) = []
