@@ -12,7 +12,7 @@ use Rattle.hac_model.specs.Tree.Links.{atom, holds, is_item, is_judged, is_lent,
 use Rattle.hac_model.specs.declared.states.State.{State}
 use Rattle.hac_model.proofs.AmongLemmas.{among-left, among-right}
 use Rattle.hac_model.proofs.KeepingLemmas.{all-parted}
-use Rattle.reeval.specs.Judging.{JudgesAlike, LeavesAlike, judgement}
+use Rattle.reeval.specs.Judging.{FindsAlike, JudgesAlike, LeavesAlike, judgement}
 use Rattle.reeval.specs.declared.verdicts.Verdict.{Verdict}
 
 -- What is semantic neither before nor after.
@@ -93,12 +93,20 @@ lent-across s t item dir asked a b after lending same =
     ∙ any-agree (λ lender. provide s a lender item) (λ lender. provide t b lender item) (lenders t dir)
     (λ e inside. same e (subst (λ (es : List ℕ). Among es e) (sym (depends-asked t dir asked after)) (inr (among-right (named_in asked) (lenders t dir) e inside))))
 
--- a directory says the same of an item by the same inputs, if those on which it depends provide the item alike
-pub judge-across : (s t : State) (item dir : ℕ) (asked : Formula ℕ) → SameInputs s t item dir asked → JudgesAlike s t item dir
-judge-across s t item dir asked h a b same = λ i. record {
-  found = (is_some (query i) && h.items i) && (above i && h.judged i && satisfied-same i && not (h.added i || h.removed i));
-  lent = (is_some (query i) && h.items i) && lent i;
-}
+-- what it is asked but for what is lent to it
+pub record SameTests (s t : State) (item dir : ℕ) (asked : Formula ℕ) : Type 0 where
+  pub before : query_at s dir ≡ Some asked
+  pub after : query_at t dir ≡ Some asked
+  pub items : is_item s item ≡ is_item t item
+  pub judged : is_judged s item ≡ is_judged t item
+  pub parents : parent_of s dir ≡ parent_of t dir
+  pub added : is_permanent s dir item ≡ is_permanent t dir item
+  pub removed : is_prohibited s dir item ≡ is_prohibited t dir item
+  pub atoms : AllByRecursion (λ term. atom s term item ≡ atom t term item) (terms_of asked)
+
+-- a directory finds an item alike by the same tests, if those on which it depends provide the item alike
+pub finds-across : (s t : State) (item dir : ℕ) (asked : Formula ℕ) → SameTests s t item dir asked → FindsAlike s t item dir
+finds-across s t item dir asked h a b same = λ i. (is_some (query i) && h.items i) && (above i && h.judged i && satisfied-same i && not (h.added i || h.removed i))
   where
     query : query_at s dir ≡ query_at t dir
     query = h.before ∙ sym h.after
@@ -115,8 +123,24 @@ judge-across s t item dir asked h a b same = λ i. record {
         ∙ holds-across s t item a b asked h.atoms (λ e named. edge e (inr (among-left (named_in asked) (lenders t dir) e named)))
         ∙ sym (satisfied t b dir item asked h.after)
 
-    lent : is_lent s a dir item ≡ is_lent t b dir item
-    lent = lent-across s t item dir asked a b h.after h.lending same
+-- a directory says the same of an item by the same inputs, if those on which it depends provide the item alike
+pub judge-across : (s t : State) (item dir : ℕ) (asked : Formula ℕ) → SameInputs s t item dir asked → JudgesAlike s t item dir
+judge-across s t item dir asked h a b same = λ i. record {
+  found = finds-across s t item dir asked tests a b same i;
+  lent = (is_some ((h.before ∙ sym h.after) i) && h.items i) && lent-across s t item dir asked a b h.after h.lending same i;
+}
+  where
+    tests : SameTests s t item dir asked
+    tests = record {
+      before = h.before;
+      after = h.after;
+      items = h.items;
+      judged = h.judged;
+      parents = h.parents;
+      added = h.added;
+      removed = h.removed;
+      atoms = h.atoms;
+    }
 
 -- nor does it find an item in either state that wasn't judged before and doesn't satisfy the query behind
 pub unfound-across : (s t : State) (item dir : ℕ) (asked : Formula ℕ) → query_at s dir ≡ Some asked → query_at t dir ≡ Some asked → is_item s item ≡ is_item t item → lenders s dir ≡ lenders t dir →

@@ -67,13 +67,13 @@ module _ (n item : ℕ) (other : (item == n) ≡ false) where
       has-other n ks item other
       ∙ sym (has-put_in n (without n ks) item ∙ ap (λ (b : Bool). b || has (without n ks) item) (ne_eqb n item (λ same. eqb-false item n other (sym same))))
 
-  marked-added : (kind : Kind) (marks : Marks) → has marks.permanent item ≡ has (with_mark kind n marks).permanent item
+  pub marked-added : (kind : Kind) (marks : Marks) → has marks.permanent item ≡ has (with_mark kind n marks).permanent item
   marked-added Permanent marks = put-has marks.permanent
   marked-added Prohibited marks = has-other n marks.permanent item other
   marked-added Transient marks = has-other n marks.permanent item other
   marked-added Unlinked marks = has-other n marks.permanent item other
 
-  marked-removed : (kind : Kind) (marks : Marks) → has marks.prohibited item ≡ has (with_mark kind n marks).prohibited item
+  pub marked-removed : (kind : Kind) (marks : Marks) → has marks.prohibited item ≡ has (with_mark kind n marks).prohibited item
   marked-removed Permanent marks = has-other n marks.prohibited item other
   marked-removed Prohibited marks = put-has marks.prohibited
   marked-removed Transient marks = has-other n marks.prohibited item other

@@ -119,7 +119,7 @@ same-facts item f g same = record {
 pub permanent-told : (s : State) (n : ℕ) → permanent_at s n ≡ (facts_of s n).marks.permanent
 permanent-told s n = elim (entry_at s.entries n) as (λ o. option_map_or permanent_in (option_map (λ (e : Entry). e.body) o) [] ≡ (facts_at (is_directory_at s.entries) o).marks.permanent) [ None ↦ refl | Some e ↦ refl ]
 
-prohibited-told : (s : State) (n : ℕ) → prohibited_at s n ≡ (facts_of s n).marks.prohibited
+pub prohibited-told : (s : State) (n : ℕ) → prohibited_at s n ≡ (facts_of s n).marks.prohibited
 prohibited-told s n = elim (entry_at s.entries n) as (λ o. option_map_or prohibited_in (option_map (λ (e : Entry). e.body) o) [] ≡ (facts_at (is_directory_at s.entries) o).marks.prohibited) [ None ↦ refl | Some e ↦ refl ]
 
 answers-told : (s : State) (n : ℕ) → answers_at s n ≡ (facts_of s n).answers
@@ -165,10 +165,10 @@ module _ (s : State) (event : Event) (item : ℕ) (h : IsValid s) (ok : IsTrue (
       ∙ ap (λ (o : Option (List ℕ)). unwrap_or o []) (owes.answers m own term (ap (λ (answers : List Answer). is_kept answers term) (sym (answers-told s m)) ∙ known))
       ∙ ap (λ (answers : List Answer). unwrap_or (kept_for answers term) []) (sym (ap (λ (f : Facts). f.answers) (facts-law s h event ok m)) ∙ sym (answers-told t m))
 
-  items-same : is_item s item ≡ is_item t item
+  pub items-same : is_item s item ≡ is_item t item
   items-same = items-seen (entry_at s.entries item) ∙ ap is_seen owes.sight ∙ sym (items-seen (entry_at t.entries item))
 
-  alike : is_item s item ≡ true → IsAlike s t (begins s event) item
+  pub alike : is_item s item ≡ true → IsAlike s t (begins s event) item
   alike is = record {
     items = items-same;
     documents = documents-seen (entry_at s.entries item) ∙ ap (λ (o : Option ItemSeen). option_map_or (λ (i : ItemSeen). i.document) o false) owes.sight ∙ sym (documents-seen (entry_at t.entries item));

@@ -89,7 +89,7 @@ terms-known s item dir asked h is at =
     (entry_at-all (λ e. AreKept answers (terms_in e.body)) s.entries dir d.0 each d.1)
 
 -- what a directory depends on is a directory
-edge-directory : (s : State) (dir e : ℕ) → IsValid s → Among (depends s dir) e → is_directory_at s.entries e ≡ true
+pub edge-directory : (s : State) (dir e : ℕ) → IsValid s → Among (depends s dir) e → is_directory_at s.entries e ≡ true
 edge-directory s dir e h edge = at (query_at s dir) refl edge
   where
     fits : (d : Entry) → AsksWell s d.body → (b : Body) → d.body ≡ b → (asked : Formula ℕ) → query_in b ≡ Some asked → are_directories s (named_in asked) ≡ true
@@ -128,29 +128,32 @@ edge-directory s dir e h edge = at (query_at s dir) refl edge
 
 -- What is no item.
 
-no_item-judged : (s : State) (linked : ℕ → Bool) (item dir : ℕ) → is_item s item ≡ false → judgement s linked item dir ≡ record { found = false; lent = false }
+pub no_item-judged : (s : State) (linked : ℕ → Bool) (item dir : ℕ) → is_item s item ≡ false → judgement s linked item dir ≡ record { found = false; lent = false }
 no_item-judged s linked item dir none = λ i. record { found = guard i && passes s linked dir item; lent = guard i && is_lent s linked dir item }
   where
     guard : (is_semantic s dir && is_item s item) ≡ false
     guard = ap (λ (b : Bool). is_semantic s dir && b) none ∙ and-false (is_semantic s dir)
 
+-- a directory that keeps its query provides alike what is no item
+pub none-provided : (s t : State) (item e : ℕ) → is_item s item ≡ false → is_item t item ≡ false → query_at s e ≡ query_at t e → ProvidesAlike s t item e
+none-provided s t item e before after query a b linked = λ i. below i || (is_some (query i) && (linked i || added i))
+  where
+    below : is_below s e item ≡ is_below t e item
+    below =
+        ap (λ (b : Bool). b && is_directory_at s.entries e && extends (path_of s item) (path_of s e)) before
+        ∙ sym (ap (λ (b : Bool). b && is_directory_at t.entries e && extends (path_of t item) (path_of t e)) after)
+
+    added : (is_permanent s e item && is_item s item) ≡ (is_permanent t e item && is_item t item)
+    added =
+        ap (λ (b : Bool). is_permanent s e item && b) before ∙ and-false (is_permanent s e item)
+        ∙ sym (ap (λ (b : Bool). is_permanent t e item && b) after ∙ and-false (is_permanent t e item))
+
 -- nothing is said of what is no item
 pub none-alike : (s t : State) (begins : ℕ → Bool) (item : ℕ) → is_item s item ≡ false → is_item t item ≡ false → ((dir : ℕ) → begins dir ≡ false → query_at s dir ≡ query_at t dir) → LeavesAlike s t begins item
 none-alike s t begins item before after queries = record {
   judges = λ dir still a b same. no_item-judged s a item dir before ∙ sym (no_item-judged t b item dir after);
-  provides = λ dir e still edge apart a b linked.
-      λ i. below e i || (is_some (queries e apart i) && (linked i || added e i));
+  provides = λ dir e still edge apart. none-provided s t item e before after (queries e apart);
 }
-  where
-    below : (e : ℕ) → is_below s e item ≡ is_below t e item
-    below e =
-        ap (λ (b : Bool). b && is_directory_at s.entries e && extends (path_of s item) (path_of s e)) before
-        ∙ sym (ap (λ (b : Bool). b && is_directory_at t.entries e && extends (path_of t item) (path_of t e)) after)
-
-    added : (e : ℕ) → (is_permanent s e item && is_item s item) ≡ (is_permanent t e item && is_item t item)
-    added e =
-        ap (λ (b : Bool). is_permanent s e item && b) before ∙ and-false (is_permanent s e item)
-        ∙ sym (ap (λ (b : Bool). is_permanent t e item && b) after ∙ and-false (is_permanent t e item))
 
 -- What stays alike of an item.
 
@@ -172,7 +175,7 @@ first_of_list [] = 0
 first_of_list (x ∷ xs) = x
 
 module _ (s t : State) (h : IsValid s) (k : IsValid t) (begins : ℕ → Bool) (item : ℕ) (same : IsAlike s t begins item) where
-  judged-same : is_judged s item ≡ is_judged t item
+  pub judged-same : is_judged s item ≡ is_judged t item
   judged-same = λ i. same.documents i || is_some (same.texts i)
 
   -- a term that the document's mount keeps
@@ -192,7 +195,7 @@ module _ (s t : State) (h : IsValid s) (k : IsValid t) (begins : ℕ → Bool) (
           ∙ ap (λ (text : Option (List ℕ)). option_map_or (λ text. has_term text term) text false) same.texts
           ∙ sym (ap (by t) (sym same.documents ∙ is))
 
-  atoms-same : (dir : ℕ) (asked : Formula ℕ) → query_at s dir ≡ Some asked → AllByRecursion (λ term. atom s term item ≡ atom t term item) (terms_of asked)
+  pub atoms-same : (dir : ℕ) (asked : Formula ℕ) → query_at s dir ≡ Some asked → AllByRecursion (λ term. atom s term item ≡ atom t term item) (terms_of asked)
   atoms-same dir asked asks = at (is_document_at s.entries item) refl
     where
       at : (b : Bool) → is_document_at s.entries item ≡ b → AllByRecursion (λ term. atom s term item ≡ atom t term item) (terms_of asked)
@@ -242,11 +245,13 @@ module _ (s t : State) (h : IsValid s) (k : IsValid t) (begins : ℕ → Bool) (
           ∙ sym (ap (λ (b : Bool). b && is_directory_at t.entries e && extends (path_of t item) (path_of t e)) (sym same.items ∙ none))
       at true is = λ i. same.items i && (before ∙ sym after) i && same.below e before after is (sym same.items ∙ is) i
 
+  -- what is a directory in both states provides the item alike
+  pub provided-same : (e : ℕ) → is_directory_at s.entries e ≡ true → is_directory_at t.entries e ≡ true → begins e ≡ false → ProvidesAlike s t item e
+  provided-same e before after apart a b linked = λ i. below-same e before after i || (is_some (same.queries e apart i) && (linked i || (same.added e apart i && same.items i)))
+
+  -- and so does what a directory depends on
   provides-same : (dir e : ℕ) → begins dir ≡ false → Among (depends t dir) e → begins e ≡ false → ProvidesAlike s t item e
-  provides-same dir e still edge apart a b linked =
-      let before = edge-directory s dir e h (subst (λ (es : List ℕ). Among es e) (sym (same.edges dir still)) edge) in
-      let after = edge-directory t dir e k edge in
-      λ i. below-same e before after i || (is_some (same.queries e apart i) && (linked i || (same.added e apart i && same.items i)))
+  provides-same dir e still edge = provided-same e (edge-directory s dir e h (subst (λ (es : List ℕ). Among es e) (sym (same.edges dir still)) edge)) (edge-directory t dir e k edge)
 
   pub leaves-alike : LeavesAlike s t begins item
   leaves-alike = record { judges = judges-same; provides = provides-same }

@@ -2,6 +2,7 @@ pub mod JudgeLemmas
 pub mod MeaningLemmas
 pub mod ToldLemmas
 pub mod SettleLemmas
+pub mod ProbeLemmas
 pub mod ApplyLemmas
 pub mod SeveralLemmas
 pub mod LinkedLemmas
@@ -15,4 +16,6 @@ pub mod AskOwes
 pub mod MoveOwes
 pub mod MountOwes
 pub mod EventsLeave
+pub mod TieLemmas
 pub mod PlanLemmas
+pub mod WeightLemmas

@@ -7,14 +7,15 @@ use Rattle.std.specs.List.{list_any}
 use Rattle.std.specs.Option.{option_map_or}
 use Rattle.dep_graph.specs.Searches.{IsOrdered}
 use Rattle.hac_model.specs.Query.Formula.{Formula}
+use Rattle.hac_model.specs.Tree.Costs.{is_shifted}
 use Rattle.hac_model.specs.Tree.Depends.{Among, depends, named_in}
-use Rattle.hac_model.specs.Tree.Links.{has, is_item, is_lent, is_semantic, lenders, parent_of, passes, provide, query_at}
+use Rattle.hac_model.specs.Tree.Links.{column, has, is_item, is_lent, is_semantic, lenders, links, parent_of, passes, provide, query_at}
 use Rattle.hac_model.specs.declared.states.State.{State}
 use Rattle.hac_model.proofs.AmongLemmas.{among-left, among-right}
 use Rattle.hac_model.proofs.CycleLemmas.{any-among}
 use Rattle.hac_model.proofs.LinkLemmas.{lent-same, passes-same, provide-same}
 use Rattle.reeval.specs.Judging.{is_linked, judgement, verdict_of}
-use Rattle.reeval.specs.Routes.{Covers, begins_at, dirs_of}
+use Rattle.reeval.specs.Routes.{Covers, begins_at, dirs_of, ties_at}
 use Rattle.reeval.specs.declared.settling.Stop.{Stop}
 use Rattle.reeval.specs.declared.verdicts.Verdict.{Verdict}
 use Rattle.reeval.proofs.JudgeLemmas.{verdicts-only}
@@ -34,7 +35,7 @@ pub absent : (ns : List ℕ) (n : ℕ) → ¬ Among ns n → has ns n ≡ false
 absent ns n out = elim (has ns n) as (λ b. has ns n ≡ b → b ≡ false) [ true ↦ (λ is. absurd (out (has-among ns n is))) | false ↦ (λ _. refl) ] refl
 
 -- where none moved, nothing leans on any
-none-moved : (dirs : List ℕ) → list_any (has []) dirs ≡ false
+pub none-moved : (dirs : List ℕ) → list_any (has []) dirs ≡ false
 none-moved [] = refl
 none-moved (dir ∷ dirs) = none-moved dirs
 
@@ -99,6 +100,26 @@ begins-there edges (first ∷ stops) (suc i) stop rest ordered is out =
     there stops zero is = subst (λ (all : List Stop). Among (dirs_of all) stop.dir) (sym is) (inl refl)
     there [] (suc i) is = absurd cc
     there (first ∷ stops) (suc i) is = inr (there stops i is)
+
+-- a stop at a place is one of all
+pub any-there : (p : Stop → Bool) (stops : List Stop) (i : ℕ) (stop : Stop) (rest : List Stop) → drop i stops ≡ stop ∷ rest → p stop ≡ true → list_any p stops ≡ true
+any-there p [] zero stop rest is passes = absurd cc
+any-there p [] (suc i) stop rest is passes = absurd cc
+any-there p (first ∷ stops) zero stop rest is passes = ap (list_any p) is ∙ ap (λ (b : Bool). b || list_any p rest) passes
+any-there p (first ∷ stops) (suc i) stop rest is passes =
+    elim (p first) as (λ b. (b || list_any p stops) ≡ true) [ true ↦ refl | false ↦ any-there p stops i stop rest is passes ]
+
+-- so it fails a test that all fail
+pub none-there : (p : Stop → Bool) (stops : List Stop) (i : ℕ) (stop : Stop) (rest : List Stop) → drop i stops ≡ stop ∷ rest → list_any p stops ≡ false → p stop ≡ false
+none-there p stops i stop rest is none = elim (p stop) as (λ b. p stop ≡ b → b ≡ false) [
+  | true ↦ (λ passes. let any = any-there p stops i stop rest is passes in absurd cc)
+  | false ↦ (λ _. refl)
+] refl
+
+-- where no number is among them, there are none
+pub none-left : (ns : List ℕ) → ((n : ℕ) → has ns n ≡ false) → ns ≡ []
+none-left [] none = refl
+none-left (n ∷ ns) none = let is : has (n ∷ ns) n ≡ true = ap (λ (b : Bool). b || has ns n) (eq-eqb n n refl) in let not_it = none n in absurd cc
 
 -- no number passes a test that each of them fails
 none-any : (p : ℕ → Bool) (ns : List ℕ) → ((n : ℕ) → Among ns n → p n ≡ false) → list_any p ns ≡ false
@@ -223,6 +244,37 @@ module _ (s t : State) (item : ℕ) (stops : List Stop) (covers : Covers s t sto
       | false ↦ (λ _. refl)
     ] refl)
 
+    unmoved : list_any (has moved) (depends t dir) ≡ false → (e : ℕ) → Among (depends t dir) e → has moved e ≡ false
+    unmoved leans e edge = elim (has moved e) as (λ b. has moved e ≡ b → b ≡ false) [
+      | true ↦ (λ is. let any = any-among (has moved) (depends t dir) e edge is in absurd cc)
+      | false ↦ (λ _. refl)
+    ] refl
+
+    -- what it depends on provides the item as before, where it leans on nothing that moved
+    provided : list_any (has moved) (depends t dir) ≡ false →
+        ((e : ℕ) → Among (depends t dir) e → known e ≡ before e → begins_at stops e ≡ false → provide s (is_linked before) e item ≡ provide t (is_linked known) e item)
+        → (e : ℕ) → Among (depends t dir) e → provide s (is_linked before) e item ≡ provide t (is_linked known) e item
+    provided leans outside e edge = elim (has dirs e) as (λ b. has dirs e ≡ b → provide s (is_linked before) e item ≡ provide t (is_linked known) e item) [
+      | true ↦ (λ is. elim (h.still e (λ i. is i && not (early e edge i)) (unmoved leans e edge)) as (λ _. provide s (is_linked before) e item ≡ provide t (is_linked known) e item) [
+        | inl same ↦ same
+        | inr both ↦ outside e edge both.0 both.1
+      ])
+      | false ↦ (λ out. outside e edge (h.others e (ap (λ (b : Bool). b && not (has (dir ∷ left) e)) out)) (begins-inside stops e out))
+    ] refl
+
+    -- it finds what it found, where only what is lent to it may be new
+    found-stays : ties_at stops dir ≡ true → list_any (has moved) (depends t dir) ≡ false → (known dir).found ≡ (judgement t (is_linked known) item dir).found
+    found-stays ties leans =
+        let tied = covers.tied dir ties in
+        ap (λ (v : Verdict). v.found) (h.others dir was-left ∙ covers.before dir)
+        ∙ tied.finds (is_linked before) (is_linked known) (provided leans (λ e edge same none. tied.provides e edge none (is_linked before) (is_linked known) (linked-same known e same)))
+
+    -- where its query is not asked, what it finds is known
+    pub asked-found : (leans ties : Bool) → (leans ≡ false → (e : ℕ) → Among (depends t dir) e → ¬ Among dirs e) → (ties ≡ true → ties_at stops dir ≡ true)
+        → (not ties || (leans && list_any (has moved) (depends t dir))) ≡ false → (known dir).found ≡ (judgement t (is_linked known) item dir).found
+    asked-found leans true alone there out = found-stays (there refl) (leans-none leans alone out)
+    asked-found leans false alone there out = absurd cc
+
     -- it was not judged: nothing begins there, and it leans on nothing that moved
     pub settled-by : begins_at stops dir ≡ false → list_any (has moved) (depends t dir) ≡ false → Settled left known moved
     settled-by begins leans = record {
@@ -244,26 +296,11 @@ module _ (s t : State) (item : ℕ) (stops : List Stop) (covers : Covers s t sto
         wider : (d : ℕ) → has left d ≡ true → has (dir ∷ left) d ≡ true
         wider d is = elim (dir == d) as (λ b. (b || has left d) ≡ true) [ true ↦ refl | false ↦ is ]
 
-        unmoved : (e : ℕ) → Among (depends t dir) e → has moved e ≡ false
-        unmoved e edge = elim (has moved e) as (λ b. has moved e ≡ b → b ≡ false) [
-          | true ↦ (λ is. let any = any-among (has moved) (depends t dir) e edge is in absurd cc)
-          | false ↦ (λ _. refl)
-        ] refl
-
         outside : (e : ℕ) → Among (depends t dir) e → known e ≡ before e → begins_at stops e ≡ false → provide s (is_linked before) e item ≡ provide t (is_linked known) e item
         outside e edge same none = covers.alike.provides dir e begins edge none (is_linked before) (is_linked known) (linked-same known e same)
 
-        provided : (e : ℕ) → Among (depends t dir) e → provide s (is_linked before) e item ≡ provide t (is_linked known) e item
-        provided e edge = elim (has dirs e) as (λ b. has dirs e ≡ b → provide s (is_linked before) e item ≡ provide t (is_linked known) e item) [
-          | true ↦ (λ is. elim (h.still e (λ i. is i && not (early e edge i)) (unmoved e edge)) as (λ _. provide s (is_linked before) e item ≡ provide t (is_linked known) e item) [
-            | inl same ↦ same
-            | inr both ↦ outside e edge both.0 both.1
-          ])
-          | false ↦ (λ out. outside e edge (h.others e (ap (λ (b : Bool). b && not (has (dir ∷ left) e)) out)) (begins-inside stops e out))
-        ] refl
-
         own : known dir ≡ judgement t (is_linked known) item dir
-        own = stays known dir begins (h.others dir was-left) provided
+        own = stays known dir begins (h.others dir was-left) (provided leans outside)
 
     -- it was judged
     module _ (more : ℕ → Verdict) (moves : List ℕ)
@@ -336,3 +373,69 @@ module _ (s t : State) (item : ℕ) (stops : List Stop) (covers : Covers s t sto
               even (provide s (is_linked before) dir item) (provide t (is_linked more) dir item)
               (sym (ap (λ (b : Bool). b && not (beq (provide s (is_linked before) dir item) (provide t (is_linked more) dir item))) (eq-eqb dir dir refl))
               ∙ (parts (has moved dir) _ (sym (noted dir) ∙ out)).1)
+
+  -- a directory that was passed is passed when fewer are left
+  wider-passed : (dir : ℕ) (left : List ℕ) (d : ℕ) → passed (dir ∷ left) d ≡ true → passed left d ≡ true
+  wider-passed dir left d is =
+      elim (has dirs d) as (λ a. (a && not (dir == d || has left d)) ≡ true → (a && not (has left d)) ≡ true) [
+        | true ↦ elim (dir == d) as (λ b. not (b || has left d) ≡ true → not (has left d) ≡ true) [ true ↦ (λ never. absurd cc) | false ↦ (λ is. is) ]
+        | false ↦ (λ never. absurd cc)
+      ] is
+
+  -- what is said by a directory that was passed is what the second state says
+  passed-final : (left : List ℕ) (known : ℕ → Verdict) (moved : List ℕ) → Settled left known moved → (d : ℕ) → passed left d ≡ true → known d ≡ verdict_of t item d
+  passed-final [] known moved h d is = settled-all known moved h d
+  passed-final (dir ∷ left) known moved h d is =
+      sym (other dir left known moved h more moves told noted d (apart-passed dir left known moved h more moves told noted d is))
+      ∙ passed-final left more moves (settled-judged dir left known moved h more moves told noted) d (wider-passed dir left d is)
+    where
+      more : ℕ → Verdict
+      more d = if d == dir then judgement t (is_linked known) item dir else known d
+
+      differs : Bool
+      differs = not (beq (provide s (is_linked before) dir item) (provide t (is_linked more) dir item))
+
+      moves : List ℕ
+      moves = if differs then dir ∷ moved else moved
+
+      told : (d : ℕ) → more d ≡ (if d == dir then judgement t (is_linked known) item dir else known d)
+      told d = refl
+
+      noted : (d : ℕ) → has moves d ≡ (has moved d || (dir == d && differs))
+      noted d = elim differs as (λ b. has (if b then dir ∷ moved else moved) d ≡ (has moved d || (dir == d && b))) [
+        | true ↦ either (dir == d) (has moved d)
+        | false ↦ neither (dir == d) (has moved d)
+      ]
+        where
+          either : (a b : Bool) → (a || b) ≡ (b || (a && true))
+          either true true = refl
+          either true false = refl
+          either false true = refl
+          either false false = refl
+
+          neither : (a b : Bool) → b ≡ (b || (a && false))
+          neither true true = refl
+          neither true false = refl
+          neither false true = refl
+          neither false false = refl
+
+  -- where it is judged and provides the item in both states or in neither, nothing moves
+  pub none-moves : (dir : ℕ) (left : List ℕ) (known : ℕ → Verdict) (moved : List ℕ) (h : Settled (dir ∷ left) known moved) (more : ℕ → Verdict) (moves : List ℕ)
+      (told : (d : ℕ) → more d ≡ (if d == dir then judgement t (is_linked known) item dir else known d))
+      (noted : (d : ℕ) → has moves d ≡ (has moved d || (dir == d && not (beq (provide s (is_linked before) dir item) (provide t (is_linked more) dir item)))))
+      → is_shifted s t item dir ≡ false → moved ≡ [] → moves ≡ []
+  none-moves dir left known moved h more moves told noted even none = none-left moves (λ d.
+      noted d
+      ∙ (λ i. has (none i) d || (dir == d && not (beq (provide s (is_linked before) dir item) (said i))))
+      ∙ ap (λ (b : Bool). dir == d && b) even
+      ∙ off (dir == d))
+    where
+      final : more dir ≡ verdict_of t item dir
+      final = passed-final left more moves (settled-judged dir left known moved h more moves told noted) dir (now-passed dir left known moved h)
+
+      said : provide t (is_linked more) dir item ≡ provide t (column (links t) item) dir item
+      said = provide-same t (is_linked more) (column (links t) item) dir item (ap (λ (v : Verdict). v.found || v.lent) final)
+
+      off : (a : Bool) → (a && false) ≡ false
+      off true = refl
+      off false = refl

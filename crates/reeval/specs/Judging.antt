@@ -33,6 +33,11 @@ abbrev pub JudgesAlike : State → State → ℕ → ℕ → Type 0
 JudgesAlike s t item dir =
     (a b : ℕ → Bool) → ((e : ℕ) → Among (depends t dir) e → provide s a e item ≡ provide t b e item) → judgement s a item dir ≡ judgement t b item dir
 
+-- the directory finds the item in both states or in neither, if those on which it depends provide the item alike
+abbrev pub FindsAlike : State → State → ℕ → ℕ → Type 0
+FindsAlike s t item dir =
+    (a b : ℕ → Bool) → ((e : ℕ) → Among (depends t dir) e → provide s a e item ≡ provide t b e item) → (judgement s a item dir).found ≡ (judgement t b item dir).found
+
 -- the directory provides the item alike in both states, if it is linked there alike
 abbrev pub ProvidesAlike : State → State → ℕ → ℕ → Type 0
 ProvidesAlike s t item dir = (a b : ℕ → Bool) → a dir ≡ b dir → provide s a dir item ≡ provide t b dir item
@@ -42,3 +47,9 @@ ProvidesAlike s t item dir = (a b : ℕ → Bool) → a dir ≡ b dir → provid
 pub record LeavesAlike (s t : State) (begins : ℕ → Bool) (item : ℕ) : Type 0 where
   pub judges : (dir : ℕ) → begins dir ≡ false → JudgesAlike s t item dir
   pub provides : (dir e : ℕ) → begins dir ≡ false → Among (depends t dir) e → begins e ≡ false → ProvidesAlike s t item e
+
+-- the directory finds the item as before as long as those on which it depends provide it, and they provide it as long as
+-- it is linked in them: only what is lent to the directory may be new
+pub record TiesAlike (s t : State) (begins : ℕ → Bool) (item dir : ℕ) : Type 0 where
+  pub finds : FindsAlike s t item dir
+  pub provides : (e : ℕ) → Among (depends t dir) e → begins e ≡ false → ProvidesAlike s t item e

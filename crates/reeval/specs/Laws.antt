@@ -1,14 +1,14 @@
 -- Theorems over the definitions alone.
-use Rattle.std.specs.Prelude.{◌≡◌, ◌||◌, ℕ, false, IsTrue}
+use Rattle.std.specs.Prelude.{◌≡◌, ◌||◌, ℕ, false, true, IsTrue}
 use Rattle.hac_model.specs.Tree.Events.{accepted, apply}
 use Rattle.hac_model.specs.Tree.Links.{is_semantic}
-use Rattle.hac_model.specs.Tree.Touched.{begins, touches}
+use Rattle.hac_model.specs.Tree.Touched.{begins, is_the, tied, touches}
 use Rattle.hac_model.specs.Tree.Valid.{IsValid}
 use Rattle.hac_model.specs.declared.events.Event.{Event}
 use Rattle.hac_model.specs.declared.states.State.{State}
 use Rattle.link_kinds.specs.Seen.{Known, LinkListsRise}
 use Rattle.reeval.specs.Settled.{AreLinksOf, verdict_in}
-use Rattle.reeval.specs.Judging.{AreJudged, LeavesAlike, is_linked, judgement, verdict_of}
+use Rattle.reeval.specs.Judging.{AreJudged, LeavesAlike, TiesAlike, is_linked, judgement, verdict_of}
 use Rattle.reeval.specs.declared.verdicts.Verdict.{Verdict}
 
 -- the links of a valid state are its judgements by these links
@@ -36,3 +36,10 @@ abbrev pub EventsLeaveAlike : Type 0
 EventsLeaveAlike =
     (s : State) (event : Event) → IsValid s → IsTrue (accepted s event) → (item : ℕ) → touches s event item ≡ false →
     LeavesAlike s (apply s event) (begins s event) item
+
+-- the directory to which an event adds another, or from which it takes one, finds what it found as long as those on which it
+-- depends provide what they did
+abbrev pub TiesLeaveAlike : Type 0
+TiesLeaveAlike =
+    (s : State) (event : Event) → IsValid s → IsTrue (accepted s event) → (item : ℕ) → touches s event item ≡ false →
+    (dir : ℕ) → is_the (tied s event) dir ≡ true → TiesAlike s (apply s event) (begins s event) item dir

@@ -2,4 +2,5 @@ pub mod Judging
 pub mod Told
 pub mod Routes
 pub mod Settled
+pub mod Probes
 pub mod Laws

@@ -1,11 +1,11 @@
 -- The way on which an item is judged: from directory to directory, each behind those on which it depends.
-use Rattle.std.specs.Prelude.{◌≡◌, ℕ, Bool, false, ◌==◌, ◌&&◌, List, map}
+use Rattle.std.specs.Prelude.{◌≡◌, ℕ, Bool, true, false, ◌==◌, ◌&&◌, List, map}
 use Rattle.std.specs.List.{AllByRecursion, list_any}
 use Rattle.hac_model.specs.Tree.Depends.{Among, depends}
 use Rattle.hac_model.specs.Tree.Valid.{IsValid}
 use Rattle.hac_model.specs.declared.states.State.{State}
 use Rattle.dep_graph.specs.Searches.{IsOrdered}
-use Rattle.reeval.specs.Judging.{AreJudged, LeavesAlike}
+use Rattle.reeval.specs.Judging.{AreJudged, LeavesAlike, TiesAlike}
 use Rattle.reeval.specs.declared.settling.Stop.{Stop}
 
 -- the directories at which it stops
@@ -15,6 +15,10 @@ dirs_of stops = map (λ stop. stop.dir) stops
 -- judging begins at the directory
 abbrev pub begins_at : List Stop → ℕ → Bool
 begins_at stops dir = list_any (λ stop. stop.dir == dir && stop.begins) stops
+
+-- the directory is one of which only what is lent to it may be new, where judging begins
+abbrev pub ties_at : List Stop → ℕ → Bool
+ties_at stops dir = list_any (λ stop. stop.dir == dir && stop.ties) stops
 
 -- it stops at each directory behind those on which that one depends, and at all that depend on one at which it stops; what
 -- leans on none depends on none of them
@@ -29,3 +33,4 @@ pub record Covers (s t : State) (stops : List Stop) (item : ℕ) : Type 0 where
   pub after : IsValid t
   pub route : IsRoute (depends t) stops
   pub alike : LeavesAlike s t (begins_at stops) item
+  pub tied : (dir : ℕ) → ties_at stops dir ≡ true → TiesAlike s t (begins_at stops) item dir

@@ -1,7 +1,9 @@
 //! What a directory says of an item in the next state.
-ghost use Rattle.std.specs.Prelude.{◌≡◌, ◌&&◌, ◌||◌, ℕ, Bool, IsTrue, is_some};
+ghost use Rattle.std.specs.Prelude.{◌≡◌, ◌≤◌, ◌+◌, ◌&&◌, ◌||◌, ℕ, Bool, IsTrue, false, is_some};
+ghost use Rattle.std.specs.Prelude.{if◌then◌else◌};
 ghost use Rattle.std.specs.List.{list_any};
-ghost use Rattle.hac_model.specs.Query.Queries.{query_meaning};
+ghost use Rattle.hac_model.specs.Query.Queries.{query_meaning, terms};
+ghost use Rattle.hac_model.specs.Tree.Costs.{terms_at};
 ghost use Rattle.hac_model.specs.Tree.Links.{atom, holds, is_item, is_lent, is_permanent};
 ghost use Rattle.hac_model.specs.Tree.Links.{is_semantic};
 ghost use Rattle.hac_model.specs.Tree.Links.{passes, provide, satisfies};
@@ -12,7 +14,9 @@ use crate::before::Before;
 use crate::layout::Layout;
 use crate::verdicts::{Change, Verdict, latest};
 use hac_model::{Member, Number, Query};
+use hac_outside::Steps;
 use query_eval::{Atoms, judge};
+use std::sync::ledger::Ledger;
 
 /// What an item is judged by: the next state, and the links before it with what is known to be new
 /// for the item.
@@ -57,12 +61,26 @@ impl<'a, Y: Layout, A: Atoms, B: Before> Sight<'a, Y, A, B> {
         latest(self.news, dir, self.before.verdict(dir, item))
     }
 
-    /// What a directory says of an item.
-    pub(crate) fn judge(&self, dir: Number, item: Number) -> Verdict
-        ensures { A.atoms self.now.atoms.now ≡ atom (Y.state self.now.layout.now) →
+    /// What a directory says of an item. Where its query is not asked, it says what is known to
+    /// be found.
+    pub(crate) fn judge<L: Ledger>(
+        &self,
+        dir: Number,
+        item: Number,
+        asks: bool,
+        probes: &mut Steps<L>,
+    ) -> Verdict
+        ensures verdict { A.atoms self.now.atoms.now ≡ atom (Y.state self.now.layout.now) →
+            (asks ≡ false →
+            (told self.now.news.now (verdict_of (B.state self.now.before.now) item) dir).found
+            ≡ (judgement (Y.state self.now.layout.now)
+            (is_linked (told self.now.news.now (verdict_of (B.state self.now.before.now) item)))
+            item dir).found) →
             result ≡ judgement (Y.state self.now.layout.now)
             (is_linked (told self.now.news.now (verdict_of (B.state self.now.before.now) item)))
             item dir }
+        ensures probes { probes.new ≤ probes.old
+            + (if asks then terms_at (Y.state self.now.layout.now) dir else 0) }
     {
         if self.layout.query(dir).is_none() || !self.layout.is_item(item) {
             return Verdict {
@@ -71,47 +89,73 @@ impl<'a, Y: Layout, A: Atoms, B: Before> Sight<'a, Y, A, B> {
             };
         }
         Verdict {
-            found: self.passes(dir, item),
+            found: self.finds(dir, item, asks, probes),
             lent: self.is_lent(dir, item),
+        }
+    }
+
+    /// Whether a directory finds an item, or is known to find it where its query is not asked.
+    fn finds<L: Ledger>(&self, dir: Number, item: Number, asks: bool, probes: &mut Steps<L>) -> bool
+        ensures finds { IsTrue (is_item (Y.state self.now.layout.now) item) →
+            A.atoms self.now.atoms.now ≡ atom (Y.state self.now.layout.now) →
+            result ≡ (if asks then passes (Y.state self.now.layout.now)
+            (is_linked (told self.now.news.now (verdict_of (B.state self.now.before.now) item)))
+            dir item
+            else (told self.now.news.now (verdict_of (B.state self.now.before.now) item) dir).found) }
+        ensures probes { probes.new ≤ probes.old
+            + (if asks then terms_at (Y.state self.now.layout.now) dir else 0) }
+    {
+        if asks {
+            self.passes(dir, item, probes)
+        } else {
+            self.verdict(dir, item).found
         }
     }
 
     /// Whether a directory finds an item: queries judge it, the user says nothing of it there, the
     /// directory above provides it, and it satisfies the query. What costs least comes first.
-    fn passes(&self, dir: Number, item: Number) -> bool
-        ensures { IsTrue (is_item (Y.state self.now.layout.now) item) →
+    fn passes<L: Ledger>(&self, dir: Number, item: Number, probes: &mut Steps<L>) -> bool
+        ensures passes { IsTrue (is_item (Y.state self.now.layout.now) item) →
             A.atoms self.now.atoms.now ≡ atom (Y.state self.now.layout.now) →
             result ≡ passes (Y.state self.now.layout.now)
             (is_linked (told self.now.news.now (verdict_of (B.state self.now.before.now) item)))
             dir item }
+        ensures probes { probes.new ≤ probes.old + terms_at (Y.state self.now.layout.now) dir }
     {
         self.layout.is_judged(item)
             && self.layout.is_unmarked(dir, item)
             && self.within(self.layout.parent(dir), item)
-            && self.satisfies(dir, item)
+            && self.satisfies(dir, item, probes)
     }
 
     /// Whether an item satisfies the query of a directory.
-    fn satisfies(&self, dir: Number, item: Number) -> bool
-        ensures { A.atoms self.now.atoms.now ≡ atom (Y.state self.now.layout.now) →
+    fn satisfies<L: Ledger>(&self, dir: Number, item: Number, probes: &mut Steps<L>) -> bool
+        ensures satisfies { A.atoms self.now.atoms.now ≡ atom (Y.state self.now.layout.now) →
             result ≡ satisfies (Y.state self.now.layout.now)
             (is_linked (told self.now.news.now (verdict_of (B.state self.now.before.now) item)))
             dir item }
+        ensures probes { probes.new ≤ probes.old + terms_at (Y.state self.now.layout.now) dir }
     {
         match self.layout.query(dir) {
-            Some(query) => self.satisfies_query(query, item),
+            Some(query) => self.satisfies_query(query, item, probes),
             None => false,
         }
     }
 
     /// Whether an item satisfies a query.
-    fn satisfies_query(&self, query: &Query<Number>, item: Number) -> bool
-        ensures { A.atoms self.now.atoms.now ≡ atom (Y.state self.now.layout.now) →
+    fn satisfies_query<L: Ledger>(
+        &self,
+        query: &Query<Number>,
+        item: Number,
+        probes: &mut Steps<L>,
+    ) -> bool
+        ensures satisfies { A.atoms self.now.atoms.now ≡ atom (Y.state self.now.layout.now) →
             result ≡ holds (Y.state self.now.layout.now)
             (is_linked (told self.now.news.now (verdict_of (B.state self.now.before.now) item)))
             query.now item }
+        ensures probes { probes.new ≤ probes.old + terms query.now }
     {
-        judge(query, self.atoms, self, item)
+        judge(query, self.atoms, self, item, probes)
     }
 
     /// Whether a directory that the user added to this one provides an item.

@@ -1,6 +1,6 @@
 //! Theorems over the definitions alone. Each is the contract of a function that does nothing.
 ghost use Rattle.reeval.specs.Laws.{EventsLeaveAlike, LinksAreJudged, ToldLinksAreKept};
-ghost use Rattle.reeval.specs.Laws.{TouchedLeaveAlike, VerdictsAreOnly};
+ghost use Rattle.reeval.specs.Laws.{TiesLeaveAlike, TouchedLeaveAlike, VerdictsAreOnly};
 
 /// The links of a state are its judgements by these links, item by item.
 pub fn links_are_judged()
@@ -26,4 +26,10 @@ pub fn touched_leave_alike()
 /// begins, or where a directory on which that one depends provides another item.
 pub fn events_leave_alike()
     ensures { EventsLeaveAlike }
+{}
+
+/// The directory to which an event adds another, or from which it takes one, is judged without its
+/// query: what it finds changes only where what it depends on does.
+pub fn ties_leave_alike()
+    ensures { TiesLeaveAlike }
 {}

@@ -70,6 +70,7 @@ module _ (s : State) (count : ℕ) (files : List ℕ) (last : ℕ) (h : IsValid 
     after = after;
     route = record { ordered = tt; closed = λ dir e edge never. absurd never; alone = tt };
     alike = leaves-alike s t h after (λ dir. false) item (alike item apart);
+    tied = λ dir never. absurd cc;
   })
 
   -- once the files are settled, all that is new is known

@@ -1,4 +1,5 @@
 pub mod WayLemmas
+pub mod ProbeLemmas
 pub mod NeededLemmas
 pub mod LeftLemmas
 pub mod IndexedLemmas

@@ -5,7 +5,8 @@ use Rattle.std.specs.List.{AllByRecursion, list_any}
 use Rattle.dep_graph.specs.Searches.{IsOrdered}
 use Rattle.hac_model.specs.Tree.Depends.{Among, depends}
 use Rattle.hac_model.specs.declared.states.State.{State}
-use Rattle.reeval.specs.Routes.{Covers, begins_at, dirs_of}
+use Rattle.reeval.specs.Judging.{TiesAlike}
+use Rattle.reeval.specs.Routes.{Covers, begins_at, dirs_of, ties_at}
 use Rattle.reeval.proofs.PlanLemmas.{begins-more}
 use Rattle.reeval.specs.declared.settling.Stop.{Stop}
 use Rattle.reindex.specs.Ways.{needed, stops_at}
@@ -87,10 +88,30 @@ begins-needed (stop ∷ stops) dir = by (begins-needed stops dir) stop.begins st
         further
         ∙ sym (ap (λ (b : Bool). (stop.dir == dir && b) || list_any begins stops) is ∙ ap (λ (b : Bool). b || list_any begins stops) (and-false (stop.dir == dir)))
 
+-- what ties there did
+ties-needed : (stops : List Stop) (dir : ℕ) → ties_at (needed stops) dir ≡ true → ties_at stops dir ≡ true
+ties-needed [] dir is = is
+ties-needed (stop ∷ stops) dir is = by (ties-needed stops dir) (stop.begins || stop.leans) is
+  where
+    ties : Stop → Bool
+    ties one = one.dir == dir && one.ties
+
+    wider : (a b c : Bool) → (b ≡ true → c ≡ true) → (a || b) ≡ true → (a || c) ≡ true
+    wider true b c more is = refl
+    wider false b c more is = more is
+
+    behind : (a b : Bool) → b ≡ true → (a || b) ≡ true
+    behind true b is = refl
+    behind false b is = is
+
+    by : (list_any ties (needed stops) ≡ true → list_any ties stops ≡ true) → (b : Bool) → list_any ties (if b then stop ∷ needed stops else needed stops) ≡ true → (ties stop || list_any ties stops) ≡ true
+    by further true is = wider (ties stop) (list_any ties (needed stops)) (list_any ties stops) further is
+    by further false is = behind (ties stop) (list_any ties stops) (further is)
+
 -- where judging begins at each, all are needed
 pub needed-everywhere : (leans : ℕ → Bool) (dirs : List ℕ) → needed (stops_at (λ dir. true) leans dirs) ≡ stops_at (λ dir. true) leans dirs
 needed-everywhere leans [] = refl
-needed-everywhere leans (dir ∷ dirs) = ap (λ (more : List Stop). record { dir = dir; begins = true; leans = leans dir } ∷ more) (needed-everywhere leans dirs)
+needed-everywhere leans (dir ∷ dirs) = ap (λ (more : List Stop). record { dir = dir; begins = true; ties = false; leans = leans dir } ∷ more) (needed-everywhere leans dirs)
 
 -- so an item is judged on the shorter way wherever it is on the longer one
 pub covers-needed : (s t : State) (stops : List Stop) (item : ℕ) → Covers s t stops item → Covers s t (needed stops) item
@@ -105,6 +126,7 @@ covers-needed s t stops item c = record {
     alone = alone-kept (λ stop. stop.begins || stop.leans) (depends t) (dirs_of stops) (dirs_of (needed stops)) within stops c.route.alone;
   };
   alike = begins-more s t item (begins_at stops) (begins_at (needed stops)) (λ dir out. sym (begins-needed stops dir) ∙ out) c.alike;
+  tied = λ dir is. subst (λ (begins : ℕ → Bool). TiesAlike s t begins item dir) (λ i d. sym (begins-needed stops d) i) (c.tied dir (ties-needed stops dir is));
 }
   where
     within : (e : ℕ) → Among (dirs_of (needed stops)) e → Among (dirs_of stops) e

@@ -1,5 +1,5 @@
 -- Which files steps index that are taken in a batch.
-use Rattle.std.proofs.Common.{◌≡◌, ℕ, zero, suc, ◌+◌, ◌<◌, ◌≤◌, Bool, true, false, cond, List, [], ◌∷◌, ◌++◌, map, refl, ap, sym, ◌∙◌, subst, arith, inl, inr}
+use Rattle.std.proofs.Common.{◌≡◌, ℕ, zero, suc, ◌+◌, ◌<◌, ◌≤◌, Bool, true, false, cond, List, [], ◌∷◌, ◌++◌, length-append, map, refl, ap, sym, ◌∙◌, subst, arith, inl, inr}
 use Rattle.std.specs.Prelude.{◌==◌, nat_le, nat_lt, replicate, Option, Some, None, is_none, is_some, option_and_then}
 use Rattle.std.specs.Option.{option_map, option_map_or}
 use Rattle.std.proofs.lemmas.Bool.{and_parts, cases_lt, eqb-true}
@@ -38,7 +38,7 @@ happens-then zero (suc count) s happen less = happen.0
 happens-then (suc n) (suc count) s happen less = happens-then n count (apply s Step) happen.1 (omega arith)
 
 -- where a step can happen there is a dirty file
-step-some : (s : State) → accepted s Step ≡ true → is_some (next_dirty s.entries) ≡ true
+pub step-some : (s : State) → accepted s Step ≡ true → is_some (next_dirty s.entries) ≡ true
 step-some s accepts = (and_parts (is_some (next_dirty s.entries)) (is_none (passed_limit (apply s Step))) accepts).0
 
 -- so there is one before each step
@@ -100,6 +100,7 @@ pub indexed-start : (s : State) (files : List ℕ) → IsLayout s → files ≡ 
 indexed-start s files h none = subst (λ (numbers : List ℕ). AreIndexed s 0 numbers 0) (sym none) (record {
   reached = sym (indexed-none s h);
   once = tt;
+  many = refl;
   low = λ n never. absurd never;
   all = λ n dirty low.
       let root : n ≡ 0 = omega arith in
@@ -122,6 +123,7 @@ indexed-more s n files last file h known found =
     let one : n + 1 ≡ suc n = omega arith in
     record {
       reached = ap (λ (k : ℕ). apply_all s (replicate k Step)) one ∙ steps-then n s ∙ ap (λ (t : State). apply t Step) known.reached ∙ step.1;
+      many = length-append files (file ∷ []) ∙ ap (λ (k : ℕ). k + 1) known.many;
       once = once-more files file known.once (λ before. let low = known.low file before in absurd (omega (arith, low, more)));
       low = λ k among. elim (among-append files (file ∷ []) k among) as (λ _. k ≤ file) [
         | inl before ↦ (let low = known.low k before in omega (arith, low, more))

@@ -5,7 +5,7 @@ use Rattle.std.proofs.lemmas.List.{map_more}
 use Rattle.std.specs.Prelude.{◌&&◌, ◌||◌, ◌==◌, ◌++◌, ◌≢◌, if◌then◌else◌, filter, map, not, take, IfOk, Option, Some, None, Result, Ok, Err, is_some, option_and_then}
 use Rattle.std.specs.List.{AllByRecursion, list_any}
 use Rattle.std.specs.Option.{option_map, option_map_or}
-use Rattle.dep_graph.specs.Searches.{IsCone, IsOrdered}
+use Rattle.dep_graph.specs.Searches.{EachOnce, IsCone, IsOrdered}
 use Rattle.hac_model.specs.Query.Formula.{Formula}
 use Rattle.hac_model.specs.Tree.Depends.{Among, Reaches, depends, named_in}
 use Rattle.hac_model.specs.Tree.Links.{has, is_semantic, lenders, parent_of, query_at}
@@ -16,12 +16,13 @@ use Rattle.hac_model.specs.declared.states.Body.TheVariants.{File, Dir, Symlink,
 use Rattle.hac_model.specs.declared.states.Entry.{Entry}
 use Rattle.hac_model.specs.declared.memory.Memory.{Memory}
 use Rattle.hac_model.specs.declared.states.State.{State}
-use Rattle.reeval.specs.Judging.{AreJudged, LeavesAlike}
-use Rattle.reeval.specs.Routes.{Covers, IsRoute, begins_at, dirs_of}
+use Rattle.reeval.specs.Judging.{AreJudged, LeavesAlike, TiesAlike}
+use Rattle.reeval.specs.Routes.{Covers, IsRoute, begins_at, dirs_of, ties_at}
 use Rattle.reeval.proofs.AlikeLemmas.{touched-leave}
 use Rattle.reeval.proofs.JudgeLemmas.{links-judged}
 use Rattle.reeval.proofs.PlanLemmas.{begins-more}
 use Rattle.reeval.proofs.SettleLemmas.{among-has}
+use Rattle.reeval.proofs.WeightLemmas.{ordered-once}
 use Rattle.reindex.specs.Ways.{IsWayOf, IsWayOver, begun_at, leans, stops_at, stops_from, with_first}
 use Rattle.reeval.specs.declared.settling.Stop.{Stop}
 use Rattle.reindex.specs.declared.ways.Way.{Way}
@@ -40,7 +41,7 @@ dirs-at begins leans (dir ∷ dirs) = ap (λ (more : List ℕ). dir ∷ more) (d
 -- where judging begins is put anew
 pub begun-stops : (begins other leans : ℕ → Bool) (dirs : List ℕ) → begun_at begins (stops_at other leans dirs) ≡ stops_at begins leans dirs
 begun-stops begins other leans [] = refl
-begun-stops begins other leans (dir ∷ dirs) = ap (λ (more : List Stop). record { dir = dir; begins = begins dir; leans = leans dir } ∷ more) (begun-stops begins other leans dirs)
+begun-stops begins other leans (dir ∷ dirs) = ap (λ (more : List Stop). record { dir = dir; begins = begins dir; ties = false; leans = leans dir } ∷ more) (begun-stops begins other leans dirs)
 
 begins-at : (begins leans : ℕ → Bool) (dirs : List ℕ) (dir : ℕ) → begins_at (stops_at begins leans dirs) dir ≡ (has dirs dir && begins dir)
 begins-at begins leans [] dir = refl
@@ -55,6 +56,20 @@ begins-at begins leans (first ∷ dirs) dir =
     absorbed true b = refl
     absorbed false true = refl
     absorbed false false = refl
+
+-- none of these stops ties
+pub ties-none : (begins leans : ℕ → Bool) (dirs : List ℕ) (dir : ℕ) → ties_at (stops_at begins leans dirs) dir ≡ false
+ties-none begins leans [] dir = refl
+ties-none begins leans (first ∷ dirs) dir = at (first == dir) (ties-none begins leans dirs dir)
+  where
+    at : (b : Bool) → ties_at (stops_at begins leans dirs) dir ≡ false → ((b && false) || ties_at (stops_at begins leans dirs) dir) ≡ false
+    at true rest = rest
+    at false rest = rest
+
+-- so nothing has to be known of those that do
+pub nothing-tied : (s t : State) (begins leans : ℕ → Bool) (dirs : List ℕ) (item dir : ℕ) → ties_at (stops_at begins leans dirs) dir ≡ true →
+    TiesAlike s t (begins_at (stops_at begins leans dirs)) item dir
+nothing-tied s t begins leans dirs item dir is = let none = ties-none begins leans dirs dir in absurd cc
 
 -- what doesn't lean on others depends on none of them
 abbrev pub LeansWell : (ℕ → List ℕ) → (ℕ → Bool) → List ℕ → Type 0
@@ -99,6 +114,7 @@ covers-everywhere s t leans dirs item before after ordered all well plains = rec
   after = after;
   route = route-at (depends t) (λ dir. true) leans dirs ordered all well;
   alike = begins-more s t item (λ dir. is_semantic s dir || is_semantic t dir) (begins_at (stops_at (λ dir. true) leans dirs)) within (touched-leave s t item);
+  tied = nothing-tied s t (λ dir. true) leans dirs item;
 }
   where
     within : (dir : ℕ) → begins_at (stops_at (λ dir. true) leans dirs) dir ≡ false → (is_semantic s dir || is_semantic t dir) ≡ false
@@ -116,6 +132,7 @@ covers-at s t begins leans dirs item before after ordered all well asked alike =
   after = after;
   route = route-at (depends t) begins leans dirs ordered all well;
   alike = begins-more s t item begins (begins_at (stops_at begins leans dirs)) within alike;
+  tied = nothing-tied s t begins leans dirs item;
 }
   where
     within : (dir : ℕ) → begins_at (stops_at begins leans dirs) dir ≡ false → begins dir ≡ false
@@ -127,6 +144,35 @@ covers-at s t begins leans dirs item before after ordered all well asked alike =
     ] refl
 
 -- From one directory on.
+
+dirs-from : (first : ℕ) (ties : Bool) (dirs : List ℕ) → dirs_of (stops_from first ties dirs) ≡ dirs
+dirs-from first ties [] = refl
+dirs-from first ties (dir ∷ dirs) = ap (λ (more : List ℕ). dir ∷ more) (dirs-from first ties dirs)
+
+-- judging begins as if none tied
+begins-from : (first : ℕ) (ties : Bool) (dirs : List ℕ) (dir : ℕ) → begins_at (stops_from first ties dirs) dir ≡ begins_at (stops_at (λ dir. dir == first) (λ dir. true) dirs) dir
+begins-from first ties [] dir = refl
+begins-from first ties (one ∷ dirs) dir = ap (λ (b : Bool). (one == dir && one == first) || b) (begins-from first ties dirs dir)
+
+-- the first alone ties
+ties-from : (first : ℕ) (ties : Bool) (dirs : List ℕ) (dir : ℕ) → ties_at (stops_from first ties dirs) dir ≡ true → (ties ≡ true) × (dir ≡ first)
+ties-from first ties [] dir is = absurd cc
+ties-from first ties (one ∷ dirs) dir is = at (ties-from first ties dirs dir) (one == dir) ties (one == first) refl refl refl is
+  where
+    at : (ties_at (stops_from first ties dirs) dir ≡ true → (ties ≡ true) × (dir ≡ first)) → (a b c : Bool) → (one == dir) ≡ a → ties ≡ b → (one == first) ≡ c →
+        ((a && (b && c)) || ties_at (stops_from first ties dirs) dir) ≡ true → (ties ≡ true) × (dir ≡ first)
+    at more true true true here does same is = (does, sym (eqb-true one dir here) ∙ eqb-true one first same)
+    at more true true false here does same is = more is
+    at more true false c here does same is = more is
+    at more false b c here does same is = more is
+
+alone-from : (edges : ℕ → List ℕ) (first : ℕ) (ties : Bool) (all dirs : List ℕ) → AllByRecursion (λ stop. stop.leans ≡ false → (e : ℕ) → Among (edges stop.dir) e → ¬ Among all e) (stops_from first ties dirs)
+alone-from edges first ties all [] = tt
+alone-from edges first ties all (dir ∷ dirs) = (λ never. absurd cc, alone-from edges first ties all dirs)
+
+-- fewer directories at which judging begins are among more
+ties-more : (s t : State) (item dir : ℕ) (fewer more : ℕ → Bool) → ((dir : ℕ) → more dir ≡ false → fewer dir ≡ false) → TiesAlike s t fewer item dir → TiesAlike s t more item dir
+ties-more s t item dir fewer more within alike = record { finds = alike.finds; provides = λ e edge away. alike.provides e edge (within e away) }
 
 module _ (edges : ℕ → List ℕ) (first : ℕ) (cone : List ℕ) (h : IsCone edges (first ∷ []) cone) where
   abbrev pub dirs : List ℕ
@@ -161,30 +207,42 @@ module _ (edges : ℕ → List ℕ) (first : ℕ) (cone : List ℕ) (h : IsCone 
     | false ↦ (λ out. (λ is. let there = among-has cone first is in absurd cc, (λ next edge _. alone out (some-edges (edges first) next edge)), h.ordered))
   ] refl
 
-  pub route-from : IsRoute edges (stops_from first dirs)
-  route-from = record {
-    ordered = subst (IsOrdered edges) (sym (dirs-at (λ dir. dir == first) (λ dir. true) dirs)) ordered;
+  -- each directory comes once
+  pub once-from : EachOnce dirs
+  once-from = ordered-once edges dirs ordered
+
+  pub route-from : (ties : Bool) → IsRoute edges (stops_from first ties dirs)
+  route-from ties = record {
+    ordered = subst (IsOrdered edges) (sym (dirs-from first ties dirs)) ordered;
     closed = λ dir e edge is.
-        let way = reaches-first e (subst (λ (numbers : List ℕ). Among numbers e) (dirs-at (λ dir. dir == first) (λ dir. true) dirs) is) in
-        subst (λ (numbers : List ℕ). Among numbers dir) (sym (dirs-at (λ dir. dir == first) (λ dir. true) dirs))
+        let way = reaches-first e (subst (λ (numbers : List ℕ). Among numbers e) (dirs-from first ties dirs) is) in
+        subst (λ (numbers : List ℕ). Among numbers dir) (sym (dirs-from first ties dirs))
         (inside dir (h.all dir (some-edges (edges dir) e edge) (first, inl refl, (suc way.0, (e, edge, way.1)))));
-    alone = alone-at edges (λ dir. dir == first) (λ dir. true) (dirs_of (stops_from first dirs)) dirs (λ dir never. absurd cc);
+    alone = alone-from edges first ties (dirs_of (stops_from first ties dirs)) dirs;
   }
 
-pub covers-from : (s t : State) (first : ℕ) (cone : List ℕ) (begins : ℕ → Bool) → IsValid s → IsValid t → IsCone (depends t) (first ∷ []) cone →
-    ((dir : ℕ) → begins dir ≡ (dir == first)) → (item : ℕ) → LeavesAlike s t begins item → Covers s t (stops_from first (with_first first cone)) item
-covers-from s t first cone begins before after h is item alike = record {
+-- an item is judged where judging begins at the first, also by what is lent to it alone, if the event says that of it
+pub covers-from : (s t : State) (first : ℕ) (ties : Bool) (cone : List ℕ) (begins : ℕ → Bool) → IsValid s → IsValid t → IsCone (depends t) (first ∷ []) cone →
+    ((dir : ℕ) → begins dir ≡ (dir == first)) → (item : ℕ) → LeavesAlike s t begins item → (ties ≡ true → TiesAlike s t begins item first) → Covers s t (stops_from first ties (with_first first cone)) item
+covers-from s t first ties cone begins before after h is item alike tied = record {
   before = links-judged s before item;
   after = after;
-  route = route-from (depends t) first cone h;
-  alike = begins-more s t item begins (begins_at (stops_from first (with_first first cone))) within alike;
+  route = route-from (depends t) first cone h ties;
+  alike = begins-more s t item begins begun within alike;
+  tied = λ dir does.
+      let at = ties-from first ties (with_first first cone) dir does in
+      subst (λ (n : ℕ). TiesAlike s t begun item n) (sym at.1) (ties-more s t item first begins begun within (tied at.0));
 }
   where
-    within : (dir : ℕ) → begins_at (stops_from first (with_first first cone)) dir ≡ false → begins dir ≡ false
+    begun : ℕ → Bool
+    begun = begins_at (stops_from first ties (with_first first cone))
+
+    within : (dir : ℕ) → begins_at (stops_from first ties (with_first first cone)) dir ≡ false → begins dir ≡ false
     within dir out = is dir ∙ (elim (dir == first) as (λ b. (dir == first) ≡ b → b ≡ false) [
       | true ↦ (λ same.
           let there : has (with_first first cone) dir ≡ true = ap (has (with_first first cone)) (eqb-true dir first same) ∙ first-there (depends t) first cone h in
-          let begun : begins_at (stops_from first (with_first first cone)) dir ≡ true = begins-at (λ d. d == first) (λ d. true) (with_first first cone) dir ∙ (λ i. there i && same i) in
+          let here : begins_at (stops_from first ties (with_first first cone)) dir ≡ true =
+          begins-from first ties (with_first first cone) dir ∙ begins-at (λ d. d == first) (λ d. true) (with_first first cone) dir ∙ (λ i. there i && same i) in
           absurd cc)
       | false ↦ (λ _. refl)
     ] refl)

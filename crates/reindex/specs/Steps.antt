@@ -1,5 +1,5 @@
 -- Steps that are taken in a batch: the state behind them, and what they want judged again.
-use Rattle.std.specs.Prelude.{◌≡◌, ◌≤◌, ℕ, Bool, true, false, if◌then◌else◌, nat_le, List, [], map, replicate, Option, None, Some}
+use Rattle.std.specs.Prelude.{◌≡◌, ◌≤◌, ℕ, Bool, true, false, if◌then◌else◌, nat_le, length, List, [], map, replicate, Option, None, Some}
 use Rattle.std.specs.Option.{option_map_or}
 use Rattle.dep_graph.specs.Searches.{EachOnce}
 use Rattle.file_tree.specs.Answers.{is_dirty_at}
@@ -43,9 +43,10 @@ pub record AreSettled (s t : State) (items : List ℕ) (delta : List Change) : T
   pub settled : (item : ℕ) → Among items item → (dir : ℕ) → told (news_on item delta) (verdict_of s item) dir ≡ verdict_of t item dir
   pub others : (item : ℕ) → ¬ Among items item → news_on item delta ≡ []
 
--- so many steps index these files, each once, and no other dirty file whose number isn't above the last of theirs
+-- so many steps index these files, each once and as many as steps, and no other dirty file whose number isn't above the last of theirs
 pub record AreIndexed (s : State) (count : ℕ) (files : List ℕ) (last : ℕ) : Type 0 where
   pub reached : apply_all s (replicate count Step) ≡ indexed_through last s
   pub once : EachOnce files
+  pub many : length files ≡ count
   pub low : (n : ℕ) → Among files n → n ≤ last
   pub all : (n : ℕ) → is_dirty_at s.entries n ≡ true → n ≤ last → Among files n

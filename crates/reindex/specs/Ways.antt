@@ -1,5 +1,5 @@
 -- The ways on which items are judged again after an event.
-use Rattle.std.specs.Prelude.{◌≡◌, ◌≢◌, ℕ, Bool, true, false, ◌==◌, ◌||◌, List, [], ◌∷◌, filter, length, map, not, if◌then◌else◌}
+use Rattle.std.specs.Prelude.{◌≡◌, ◌≢◌, ℕ, Bool, true, false, ◌==◌, ◌&&◌, ◌||◌, List, [], ◌∷◌, filter, length, map, not, if◌then◌else◌}
 use Rattle.std.specs.List.{list_any}
 use Rattle.dep_graph.specs.Searches.{IsOrdered}
 use Rattle.hac_model.specs.Tree.Depends.{Among, depends}
@@ -9,9 +9,9 @@ use Rattle.query_index.specs.Seen.{IsIndexOf}
 use Rattle.reeval.specs.declared.settling.Stop.{Stop}
 use Rattle.reindex.specs.declared.ways.Way.{Way}
 
--- a stop at each directory: whether judging begins there, and whether it may go on there
+-- a stop at each directory: whether judging begins there by its query, and whether it may go on there
 abbrev pub stops_at : (ℕ → Bool) → (ℕ → Bool) → List ℕ → List Stop
-stops_at begins leans dirs = map (λ dir. record { dir = dir; begins = begins dir; leans = leans dir }) dirs
+stops_at begins leans dirs = map (λ dir. record { dir = dir; begins = begins dir; ties = false; leans = leans dir }) dirs
 
 -- the directory depends on a semantic one
 abbrev pub leans : State → ℕ → Bool
@@ -21,9 +21,9 @@ leans s dir = list_any (is_semantic s) (depends s dir)
 abbrev pub stops_everywhere : State → List ℕ → List Stop
 stops_everywhere s dirs = stops_at (λ dir. true) (leans s) dirs
 
--- where it begins at one, and may go on at each
-abbrev pub stops_from : ℕ → List ℕ → List Stop
-stops_from first dirs = stops_at (λ dir. dir == first) (λ dir. true) dirs
+-- where it begins at one, at which only what is lent to it may be new if it ties, and may go on at each
+abbrev pub stops_from : ℕ → Bool → List ℕ → List Stop
+stops_from first ties dirs = map (λ dir. record { dir = dir; begins = dir == first; ties = ties && dir == first; leans = true }) dirs
 
 -- the same stop, where judging begins if its directory is one of these
 abbrev pub begun : (ℕ → Bool) → Stop → Stop

@@ -1,6 +1,8 @@
 //! All links of a state, found from nothing.
-ghost use Rattle.std.specs.Prelude.{◌≡◌, ◌+◌, IfOk, OnOk};
-ghost use Rattle.hac_model.specs.Tree.Links.{has, transient_at};
+ghost use Rattle.std.specs.Prelude.{◌≡◌, ◌≤◌, ◌+◌, IfOk, OnOk, if◌then◌else◌};
+ghost use Rattle.hac_model.specs.Tree.Costs.{opening, weight};
+ghost use Rattle.hac_model.specs.Tree.Links.{has, is_item, transient_at};
+ghost use Rattle.reeval.specs.Probes.{terms_along};
 ghost use Rattle.reeval.specs.Routes.{Covers};
 ghost use Rattle.reeval.specs.Settled.{AreLinksOf};
 ghost use Rattle.reindex.specs.Anew.{AreAllNews, AreLinksBelow, LendsNothing, unjudged_state};
@@ -12,59 +14,72 @@ use crate::texts::stops_for;
 use crate::unjudged::Unjudged;
 use crate::ways::{FEW_STOPS, Way};
 use hac_model::{Memory, Number};
+use hac_outside::Steps;
 use kept_state::KeptState;
 use link_kinds::Links;
 use reeval::{Blank, Change, Stop, Verdict, apply, latest, reserve, settle};
 use std::alloc::Global;
+use std::sync::ledger::Ledger;
 
 /// The links of a state, found from nothing. Each file is judged where its words may tell.
-pub fn links_of(alloc: Global, kept: &KeptState, way: &Way) -> Result<Links, Memory>
+pub fn links_of<L: Ledger>(
+    alloc: Global,
+    kept: &KeptState,
+    way: &Way,
+    probes: &mut Steps<L>,
+) -> Result<Links, Memory>
     requires { IsWayOf kept.now.state way.now }
-    ensures { IfOk result (AreLinksOf kept.now.state) }
+    ensures links { IfOk result (AreLinksOf kept.now.state) }
+    ensures probes { probes.new ≤ probes.old + opening kept.now.state }
 {
     kept.know_valid();
     let mut found = Links::new(alloc)?;
     for number in kept.numbers(alloc)? {
-        add_links(alloc, kept, way, &mut found, number)?;
+        add_links(alloc, kept, way, &mut found, number, probes)?;
     }
     know_lists(&found);
     Ok(found)
 }
 
 /// Adds what the links of a state say of a number: nothing if it isn't that of an item.
-fn add_links(
+fn add_links<L: Ledger>(
     alloc: Global,
     kept: &KeptState,
     way: &Way,
     found: &mut Links,
     number: Number,
+    probes: &mut Steps<L>,
 ) -> Result<(), Memory>
     requires { IsWayOf kept.now.state way.now }
-    ensures { AreLinksBelow kept.now.state found.old number →
+    ensures links { AreLinksBelow kept.now.state found.old number →
         OnOk result (AreLinksBelow kept.now.state found.new (number + 1)) }
+    ensures probes { probes.new ≤ probes.old
+        + (if is_item kept.now.state number then weight kept.now.state else 0) }
 {
     kept.know_valid();
     if !is_item(kept, number) {
         return Ok(());
     }
-    let news = news_of(alloc, kept, way, number)?;
+    let news = news_of(alloc, kept, way, number, probes)?;
     reserve(found, news.as_slice())?;
     apply(found, news.as_slice());
     Ok(())
 }
 
 /// Whether a directory finds an item. No link of another item is looked for.
-pub fn finds(
+pub fn finds<L: Ledger>(
     alloc: Global,
     kept: &KeptState,
     way: &Way,
     dir: Number,
     item: Number,
+    probes: &mut Steps<L>,
 ) -> Result<bool, Memory>
     requires { IsWayOf kept.now.state way.now }
-    ensures { IfOk result (λ finds. finds ≡ has (transient_at kept.now.state dir) item) }
+    ensures finds { IfOk result (λ finds. finds ≡ has (transient_at kept.now.state dir) item) }
+    ensures probes { probes.new ≤ probes.old + weight kept.now.state }
 {
-    let news = news_of(alloc, kept, way, item)?;
+    let news = news_of(alloc, kept, way, item, probes)?;
     let none = Verdict {
         found: false,
         lent: false,
@@ -73,26 +88,35 @@ pub fn finds(
 }
 
 /// What the links of a state say of an item.
-fn news_of(alloc: Global, kept: &KeptState, way: &Way, item: Number) -> Result<Vec<Change>, Memory>
-    requires { IsWayOf kept.now.state way.now }
-    ensures { IfOk result (λ news. AreAllNews kept.now.state item news.items) }
-{
-    if way.lends {
-        news_everywhere(alloc, kept, way, item)
-    } else {
-        news_by_words(alloc, kept, way, item)
-    }
-}
-
-/// The same, of an item that is judged in each directory.
-fn news_everywhere(
+fn news_of<L: Ledger>(
     alloc: Global,
     kept: &KeptState,
     way: &Way,
     item: Number,
+    probes: &mut Steps<L>,
 ) -> Result<Vec<Change>, Memory>
     requires { IsWayOf kept.now.state way.now }
-    ensures { IfOk result (λ news. AreAllNews kept.now.state item news.items) }
+    ensures news { IfOk result (λ news. AreAllNews kept.now.state item news.items) }
+    ensures probes { probes.new ≤ probes.old + weight kept.now.state }
+{
+    if way.lends {
+        news_everywhere(alloc, kept, way, item, probes)
+    } else {
+        news_by_words(alloc, kept, way, item, probes)
+    }
+}
+
+/// The same, of an item that is judged in each directory.
+fn news_everywhere<L: Ledger>(
+    alloc: Global,
+    kept: &KeptState,
+    way: &Way,
+    item: Number,
+    probes: &mut Steps<L>,
+) -> Result<Vec<Change>, Memory>
+    requires { IsWayOf kept.now.state way.now }
+    ensures news { IfOk result (λ news. AreAllNews kept.now.state item news.items) }
+    ensures probes { probes.new ≤ probes.old + weight kept.now.state }
 {
     kept.know_valid();
     if !is_item(kept, item) {
@@ -103,50 +127,55 @@ fn news_everywhere(
         last: Number::ROOT,
     };
     let stops = way.stops.as_slice();
-    settle(alloc, &present, &present, &Blank, stops, item)
+    settle(alloc, &present, &present, &Blank, stops, item, probes)
 }
 
 /// The same, where no directory was added to another: a file is judged where its words may tell,
 /// and nowhere if it was never indexed. Where there are few directories each item is judged in
 /// each.
-fn news_by_words(
+fn news_by_words<L: Ledger>(
     alloc: Global,
     kept: &KeptState,
     way: &Way,
     item: Number,
+    probes: &mut Steps<L>,
 ) -> Result<Vec<Change>, Memory>
     requires way { IsWayOf kept.now.state way.now }
     requires unlent { LendsNothing kept.now.state }
-    ensures { IfOk result (λ news. AreAllNews kept.now.state item news.items) }
+    ensures news { IfOk result (λ news. AreAllNews kept.now.state item news.items) }
+    ensures probes { probes.new ≤ probes.old + weight kept.now.state }
 {
     kept.know_valid();
     if way.stops.len() <= FEW_STOPS || is_document(kept, item) {
-        return news_along(alloc, kept, way.stops.as_slice(), item);
+        return news_along(alloc, kept, way.stops.as_slice(), item, probes);
     }
     match shown_of(kept, item) {
         Some(text) => {
             let stops = stops_for(alloc, way, None, text)?;
-            news_along(alloc, kept, stops.as_slice(), item)
+            news_along(alloc, kept, stops.as_slice(), item, probes)
         }
         None => Ok(Vec::new(alloc)),
     }
 }
 
 /// The same, of an item that is judged again wherever a stop says so.
-fn news_along(
+fn news_along<L: Ledger>(
     alloc: Global,
     kept: &KeptState,
     stops: &[Stop],
     item: Number,
+    probes: &mut Steps<L>,
 ) -> Result<Vec<Change>, Memory>
     requires unlent { LendsNothing kept.now.state }
     requires way { Covers (unjudged_state kept.now.state) kept.now.state stops.now item }
-    ensures { IfOk result (λ news. AreAllNews kept.now.state item news.items) }
+    ensures news { IfOk result (λ news. AreAllNews kept.now.state item news.items) }
+    ensures probes { probes.new ≤ probes.old + terms_along kept.now.state stops.now }
 {
     kept.know_valid();
     let present = Indexing {
         kept,
         last: Number::ROOT,
     };
-    settle(alloc, &present, &present, &Unjudged { kept }, stops, item)
+    let unjudged = Unjudged { kept };
+    settle(alloc, &present, &present, &unjudged, stops, item, probes)
 }

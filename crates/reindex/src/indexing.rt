@@ -10,10 +10,12 @@ ghost use Rattle.reindex.specs.Steps.{indexed_through};
 use crate::lookups::{is_document, is_item, parent_of, query_at};
 use file_tree::Tree;
 use hac_model::{Number, Query, Term};
+use hac_outside::Steps;
 use hac_words::has_term;
 use kept_state::KeptState;
 use query_eval::Atoms;
 use reeval::Layout;
+use std::sync::ledger::Ledger;
 
 /// A state, seen as that in which each file whose number isn't above `last` shows its text.
 #[derive(Drop)]
@@ -96,7 +98,8 @@ impl<'a> Layout for Indexing<'a> {
 impl<'a> Atoms for Indexing<'a> {
     ghost atoms = { λ indexing. atom (indexed_through indexing.last indexing.kept.now.state) };
 
-    fn has(&self, term: &Term, item: Number) -> bool {
+    fn has<L: Ledger>(&self, term: &Term, item: Number, probes: &mut Steps<L>) -> bool {
+        probes.tick();
         if self.is_document(item) {
             self.document_has(term, item)
         } else {

@@ -1,7 +1,8 @@
 //! What is new in the links of items that move or go.
-ghost use Rattle.std.specs.Prelude.{◌≡◌, ℕ, IfOk, false, true};
+ghost use Rattle.std.specs.Prelude.{◌≡◌, ◌≤◌, ◌+◌, ◌*◌, ℕ, IfOk, false, length, true};
 ghost use Rattle.std.specs.List.{list_all};
 ghost use Rattle.dep_graph.specs.Searches.{EachOnce};
+ghost use Rattle.hac_model.specs.Tree.Costs.{weight};
 ghost use Rattle.hac_model.specs.Tree.Depends.{Among};
 ghost use Rattle.hac_model.specs.Tree.Links.{atom, is_item};
 ghost use Rattle.hac_model.specs.Tree.Valid.{IsValid};
@@ -17,32 +18,37 @@ use crate::indexing::is_below;
 use crate::past::Past;
 use crate::ways::Way;
 use hac_model::{Memory, Number};
+use hac_outside::Steps;
 use kept_state::KeptState;
 use query_eval::Atoms;
 use reeval::{Before, Change, Layout, Stop, Verdict, settle};
 use std::alloc::Global;
+use std::sync::ledger::Ledger;
 
 /// What is new of items that move and stay what they are. Each is judged again where its place may
 /// tell.
-pub fn delta_of_moved<Y: Layout, A: Atoms>(
+pub fn delta_of_moved<Y: Layout, A: Atoms, L: Ledger>(
     alloc: Global,
     layout: &Y,
     atoms: &A,
     past: &Past<'_>,
     way: &Way,
     items: &[Number],
+    probes: &mut Steps<L>,
 ) -> Result<Vec<Change>, Memory>
     requires moves { (item : ℕ) → Among items.now item
         → OnlyMoves past.now (Y.state layout.now) item }
     requires once { EachOnce items.now }
     requires after { IsValid (Y.state layout.now) }
     requires way { IsWayOf (Y.state layout.now) way.now }
-    ensures { A.atoms atoms.now ≡ atom (Y.state layout.now) → IfOk result (λ delta.
+    ensures settled { A.atoms atoms.now ≡ atom (Y.state layout.now) → IfOk result (λ delta.
         AreSettled past.now (Y.state layout.now) items.now delta.items) }
+    ensures probes { probes.new ≤ probes.old
+        + length items.now * weight (Y.state layout.now) }
 {
     let mut delta = Vec::new(alloc);
     for item in items {
-        let news = news_of_moved(alloc, layout, atoms, past, way, *item)?;
+        let news = news_of_moved(alloc, layout, atoms, past, way, *item, probes)?;
         delta.extend_from_slice(news.as_slice())?;
     }
     Ok(delta)
@@ -51,13 +57,14 @@ pub fn delta_of_moved<Y: Layout, A: Atoms>(
 /// What is new of one of them. Judging begins at each directory that depends on one that the item
 /// leaves or comes to. It goes on at what depends on a directory that now provides the item and
 /// didn't, or no longer does.
-fn news_of_moved<Y: Layout, A: Atoms>(
+fn news_of_moved<Y: Layout, A: Atoms, L: Ledger>(
     alloc: Global,
     layout: &Y,
     atoms: &A,
     past: &Past<'_>,
     way: &Way,
     item: Number,
+    probes: &mut Steps<L>,
 ) -> Result<Vec<Change>, Memory>
     requires moves { OnlyMoves past.now (Y.state layout.now) item }
     requires after { IsValid (Y.state layout.now) }
@@ -66,10 +73,11 @@ fn news_of_moved<Y: Layout, A: Atoms>(
     ensures news { A.atoms atoms.now ≡ atom (Y.state layout.now)
         → IfOk result (λ news. (dir : ℕ) → told news.items (verdict_of past.now item) dir
         ≡ verdict_of (Y.state layout.now) item dir) }
+    ensures probes { probes.new ≤ probes.old + weight (Y.state layout.now) }
 {
     past.kept.know_valid();
     let stops = stops_of_moved(alloc, layout, past.kept, way.stops.as_slice(), item)?;
-    settle(alloc, layout, atoms, past, stops.as_slice(), item)
+    settle(alloc, layout, atoms, past, stops.as_slice(), item, probes)
 }
 
 /// The stops at which the item may be judged. Judging begins wherever its place may tell.

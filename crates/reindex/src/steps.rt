@@ -1,11 +1,14 @@
 //! The files that steps index, which are taken in a batch.
-ghost use Rattle.std.specs.Prelude.{◌≡◌, ◌++◌, ◌∷◌, [], IfOk, List, OnOk, replicate, ℕ};
+ghost use Rattle.std.specs.Prelude.{◌≡◌, ◌≤◌, ◌+◌, ◌*◌, ◌++◌, ◌∷◌, [], IfOk, List, OnOk};
+ghost use Rattle.std.specs.Prelude.{length, replicate, ℕ};
 ghost use Rattle.dep_graph.specs.Searches.{EachOnce};
 ghost use Rattle.hac_model.specs.Laws.{AllHappen};
+ghost use Rattle.hac_model.specs.Tree.Costs.{costs, weight};
 ghost use Rattle.hac_model.specs.Tree.Depends.{Among};
 ghost use Rattle.hac_model.specs.Tree.Events.{apply_all, next_dirty};
 ghost use Rattle.hac_model.specs.Tree.Valid.{IsValid};
 ghost use Rattle.hac_model.specs.declared.events.Event.TheVariants.{Step};
+ghost use Rattle.reeval.specs.Probes.{terms_along};
 ghost use Rattle.reeval.specs.Routes.{Covers};
 ghost use Rattle.reeval.specs.Settled.{AreLinksOf};
 ghost use Rattle.reindex.specs.Past.{Lead};
@@ -17,57 +20,63 @@ use crate::past::Past;
 use crate::texts::stops_for;
 use crate::ways::{FEW_STOPS, Way, stops_of_way};
 use hac_model::{Memory, Number};
+use hac_outside::Steps;
 use kept_state::KeptState;
 use link_kinds::Links;
 use reeval::{Change, Stop, settle_all};
 use std::alloc::Global;
+use std::sync::ledger::Ledger;
 
 /// The changes of links that lead to the state behind so many steps. Only the files that the steps
 /// index are judged again, each where its words may tell.
-pub fn delta_of_steps(
+pub fn delta_of_steps<L: Ledger>(
     alloc: Global,
     kept: &KeptState,
     found: &Links,
     way: &Way,
     count: u64,
+    probes: &mut Steps<L>,
 ) -> Result<Vec<Change>, Memory>
     requires links { AreLinksOf kept.now.state found.now }
     requires happen { AllHappen kept.now.state (replicate count Step) }
     requires way { IsWayOf kept.now.state way.now }
-    ensures { IfOk result (λ delta.
+    ensures leads { IfOk result (λ delta.
         Lead kept.now.state (apply_all kept.now.state (replicate count Step)) delta.items) }
+    ensures probes { probes.new ≤ probes.old + costs kept.now.state (replicate count Step) }
 {
     kept.know_valid();
     let batch = first_dirty(alloc, kept, count)?;
     let files = batch.files.as_slice();
-    delta_of_files(alloc, kept, found, way, files, batch.last)
+    delta_of_files(alloc, kept, found, way, files, batch.last, probes)
 }
 
 /// What is new of files, once all are indexed whose numbers aren't above the last.
-fn delta_of_files(
+fn delta_of_files<L: Ledger>(
     alloc: Global,
     kept: &KeptState,
     found: &Links,
     way: &Way,
     files: &[Number],
     last: Number,
+    probes: &mut Steps<L>,
 ) -> Result<Vec<Change>, Memory>
     requires links { AreLinksOf kept.now.state found.now }
     requires way { IsWayOf kept.now.state way.now }
     requires valid { IsValid (indexed_through last kept.now.state) }
     requires once { EachOnce files.now }
-    ensures { IfOk result (λ delta. AreSettled kept.now.state
+    ensures settled { IfOk result (λ delta. AreSettled kept.now.state
         (indexed_through last kept.now.state) files.now delta.items) }
+    ensures probes { probes.new ≤ probes.old + length files.now * weight kept.now.state }
 {
     let mut delta = Vec::new(alloc);
     for file in files {
-        settle_file(alloc, kept, found, way, last, *file, &mut delta)?;
+        settle_file(alloc, kept, found, way, last, *file, &mut delta, probes)?;
     }
     Ok(delta)
 }
 
 /// Adds what is new of one file then.
-fn settle_file(
+fn settle_file<L: Ledger>(
     alloc: Global,
     kept: &KeptState,
     found: &Links,
@@ -75,21 +84,32 @@ fn settle_file(
     last: Number,
     file: Number,
     delta: &mut Vec<Change>,
+    probes: &mut Steps<L>,
 ) -> Result<(), Memory>
     requires links { AreLinksOf kept.now.state found.now }
     requires way { IsWayOf kept.now.state way.now }
     requires valid { IsValid (indexed_through last kept.now.state) }
-    ensures { OnOk result ((files : List ℕ) → ¬ Among files file
+    ensures settled { OnOk result ((files : List ℕ) → ¬ Among files file
         → AreSettled kept.now.state (indexed_through last kept.now.state) files delta.old.items
         → AreSettled kept.now.state (indexed_through last kept.now.state) (files ++ file ∷ [])
         delta.new.items) }
+    ensures probes { probes.new ≤ probes.old + weight kept.now.state }
 {
     kept.know_valid();
     let indexing = Indexing { kept, last };
     let past = Past { kept, found };
     let stops = stops_of(alloc, &indexing, way, file)?;
     let stops = stops.as_slice();
-    settle_all(alloc, &indexing, &indexing, &past, stops, &[file], delta)
+    settle_all(
+        alloc,
+        &indexing,
+        &indexing,
+        &past,
+        stops,
+        &[file],
+        delta,
+        probes,
+    )
 }
 
 /// The way on which a file is judged once it is indexed. Judging begins where its words may tell.
@@ -101,8 +121,11 @@ fn stops_of(
 ) -> Result<Vec<Stop>, Memory>
     requires way { IsWayOf indexing.now.kept.now.state way.now }
     requires valid { IsValid (indexed_through indexing.now.last indexing.now.kept.now.state) }
-    ensures { IfOk result (λ stops. Covers indexing.now.kept.now.state
+    ensures covers { IfOk result (λ stops. Covers indexing.now.kept.now.state
         (indexed_through indexing.now.last indexing.now.kept.now.state) stops.items file) }
+    ensures most { IfOk result (λ stops. terms_along
+        (indexed_through indexing.now.last indexing.now.kept.now.state) stops.items
+        ≤ weight indexing.now.kept.now.state) }
 {
     indexing.kept.know_valid();
     if way.stops.len() <= FEW_STOPS {

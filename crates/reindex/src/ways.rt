@@ -88,6 +88,7 @@ fn stops_everywhere<Y: Layout>(
         stops.push(Stop {
             dir: *dir,
             begins: true,
+            ties: false,
             leans: leans(layout, *dir),
         })?;
     }
@@ -111,15 +112,22 @@ fn is_semantic<Y: Layout>(layout: &Y, dir: Number) -> bool
     layout.query(dir).is_some()
 }
 
-/// A stop at each of these directories. Judging begins at one of them, and may go on at each.
-pub fn stops_from(alloc: Global, first: Number, dirs: &[Number]) -> Result<Vec<Stop>, Memory>
-    ensures { IfOk result (λ stops. stops.items ≡ stops_from first dirs.now) }
+/// A stop at each of these directories. Judging begins at one of them, and may go on at each. If it
+/// `ties`, only what is lent to that one may be new there.
+pub fn stops_from(
+    alloc: Global,
+    first: Number,
+    ties: bool,
+    dirs: &[Number],
+) -> Result<Vec<Stop>, Memory>
+    ensures { IfOk result (λ stops. stops.items ≡ stops_from first ties dirs.now) }
 {
     let mut stops = Vec::new(alloc);
     for dir in dirs {
         stops.push(Stop {
             dir: *dir,
             begins: *dir == first,
+            ties: ties && *dir == first,
             leans: true,
         })?;
     }

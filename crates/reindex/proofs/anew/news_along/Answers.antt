@@ -1,16 +1,23 @@
-use Rattle.std.proofs.Common.{refl}
+use Rattle.std.proofs.Common.{arith, refl}
 use Rattle.reindex.specs.Anew.{unjudged_state}
 use Rattle.reindex.specs.Steps.{indexed_through}
 use Rattle.reindex.proofs.AnewLemmas.{settled-news}
 use Rattle.reindex.proofs.IndexedLemmas.{indexed-none}
+use Rattle.reindex.proofs.ProbeLemmas.{along-indexed}
 use Rattle.reindex.proofs.UnjudgedLemmas.{said-none}
 use Rattle.reindex.proofs.anew.news_along.Goals as goal
 
-pub invariant_of-settle : goal.invariant_of-settle
-invariant_of-settle c = c.requires.unlent
+pub invariant_of-unjudged : goal.invariant_of-unjudged
+invariant_of-unjudged g c = c.requires.unlent
 
-pub returns : goal.returns
-returns c =
+pub returns-clause-news : goal.returns-clause-news
+returns-clause-news g c =
     let s = c.args.kept.now.state in
     settled-news s (indexed_through 0 s) (unjudged_state s) c.args.stops.now c.args.item c.settle.result (indexed-none s c.know_valid.ensures.layout)
     (said-none s c.requires.unlent c.args.item) c.settle.ensures.own (c.settle.ensures.news refl) c.requires.way
+
+pub returns-clause-probes : goal.returns-clause-probes
+returns-clause-probes g c =
+    let most = c.settle.ensures.most in
+    let same = along-indexed 0 c.args.kept.now.state c.args.stops.now in
+    omega (arith, most, same)

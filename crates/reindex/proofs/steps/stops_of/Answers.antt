@@ -5,12 +5,13 @@ use Rattle.hac_model.specs.Tree.Links.{query_at, shown_of}
 use Rattle.query_index.specs.Seen.{IsIndexOf}
 use Rattle.reindex.specs.Steps.{indexed_through, may_begin}
 use Rattle.reindex.specs.Ways.{begun_at, needed}
+use Rattle.reindex.proofs.ProbeLemmas.{along-needed, along-way, indexed-most}
 use Rattle.reindex.proofs.TextLemmas.{covered-anyway-if, covered-if}
 use Rattle.reindex.proofs.WayLemmas.{dirs-way}
 use Rattle.reindex.proofs.steps.stops_of.Goals as goal
 
-pub returns-in-Some : goal.returns-in-Some
-returns-in-Some c =
+pub returns-in-Some-clause-covers : goal.returns-in-Some-clause-covers
+returns-in-Some-clause-covers c =
     let s = c.args.indexing.now.kept.now.state in
     let last = c.args.indexing.now.last in
     let w = c.requires.way in
@@ -19,10 +20,29 @@ returns-in-Some c =
     (subst (λ (old : Option (List ℕ)). IfOk c.stops_for.result (λ stops. stops.items ≡ needed (begun_at (may_begin s old c.in-Some.text.now) c.args.way.now.stops.items))) c.shown_of.ensures
     (c.stops_for.ensures s (subst (λ (dirs : List ℕ). IsIndexOf (map (query_at s) dirs) c.args.way.now.index) (sym (dirs-way s c.args.way.now w)) w.index)))
 
-pub returns-then-len-le-FEW_STOPS : goal.returns-then-len-le-FEW_STOPS
-returns-then-len-le-FEW_STOPS c =
+pub returns-then-len-le-FEW_STOPS-clause-covers : goal.returns-then-len-le-FEW_STOPS-clause-covers
+returns-then-len-le-FEW_STOPS-clause-covers c =
     covered-anyway-if c.args.indexing.now.kept.now.state c.args.indexing.now.last c.args.file c.args.way.now c.requires.way c.know_valid.ensures c.requires.valid c.stops_of_way.result c.stops_of_way.ensures
 
-pub returns-in-None : goal.returns-in-None
-returns-in-None c =
+pub returns-in-None-clause-covers : goal.returns-in-None-clause-covers
+returns-in-None-clause-covers c =
     covered-anyway-if c.args.indexing.now.kept.now.state c.args.indexing.now.last c.args.file c.args.way.now c.requires.way c.know_valid.ensures c.requires.valid c.stops_of_way-in-None.result c.stops_of_way-in-None.ensures
+
+pub returns-in-Some-clause-most : goal.returns-in-Some-clause-most
+returns-in-Some-clause-most c =
+    let s = c.args.indexing.now.kept.now.state in
+    let way = c.args.way.now in
+    let w = c.requires.way in
+    let begins = may_begin s (option_copied c.shown_of.result) c.in-Some.text.now in
+    indexed-most s c.args.indexing.now.last (needed (begun_at begins way.stops.items)) c.stops_for.result (along-needed s way w c.know_valid.ensures begins)
+    (c.stops_for.ensures s (subst (λ (dirs : List ℕ). IsIndexOf (map (query_at s) dirs) way.index) (sym (dirs-way s way w)) w.index))
+
+pub returns-then-len-le-FEW_STOPS-clause-most : goal.returns-then-len-le-FEW_STOPS-clause-most
+returns-then-len-le-FEW_STOPS-clause-most c =
+    let s = c.args.indexing.now.kept.now.state in
+    indexed-most s c.args.indexing.now.last c.args.way.now.stops.items c.stops_of_way.result (along-way s c.args.way.now c.requires.way c.know_valid.ensures) c.stops_of_way.ensures
+
+pub returns-in-None-clause-most : goal.returns-in-None-clause-most
+returns-in-None-clause-most c =
+    let s = c.args.indexing.now.kept.now.state in
+    indexed-most s c.args.indexing.now.last c.args.way.now.stops.items c.stops_of_way-in-None.result (along-way s c.args.way.now c.requires.way c.know_valid.ensures) c.stops_of_way-in-None.ensures

@@ -7,11 +7,11 @@ use Rattle.reeval.specs.Told.{told}
 use Rattle.reeval.proofs.MeaningLemmas.{meaning-same}
 use Rattle.reeval.proofs.judging.Sight.satisfies_query.Goals as goal
 
-pub returns : goal.returns
-returns g c = λ atoms.
+pub returns-clause-satisfies : goal.returns-clause-satisfies
+returns-clause-satisfies g c = λ atoms.
     let t = g.Y.Layout.state c.args.self.now.layout.now in
     let s = g.B.Before.state c.args.self.now.before.now in
     let news = c.args.self.now.news.now in
-    c.judge.ensures
+    c.judge.ensures.meaning
     ∙ meaning-same (g.A.Atoms.atoms c.args.self.now.atoms.now) (λ dir item. provide t (is_linked (told news (verdict_of s item))) dir item) (provide t (is_linked (told news (verdict_of s c.args.item)))) c.args.item (λ dir. refl) c.args.query.now
     ∙ ap (λ (has : Term → ℕ → Bool). query_meaning has (provide t (is_linked (told news (verdict_of s c.args.item)))) c.args.query.now c.args.item) atoms
