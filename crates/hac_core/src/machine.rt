@@ -1,7 +1,10 @@
 //! The machine itself.
-ghost use Rattle.std.specs.Prelude.{◌≡◌, [], IfOk, IfErr, IsTrue, OnOk, OnErr, true, false};
+ghost use Rattle.std.specs.Prelude.{◌≡◌, ◌≤◌, ◌+◌, [], IfOk, IfErr, IsTrue, OnOk, OnErr};
+ghost use Rattle.std.specs.Prelude.{true, false};
 ghost use Rattle.hac_model.specs.Payload.States.{snapshot_of};
 ghost use Rattle.hac_model.specs.Run.Answers.{Refuses};
+ghost use Rattle.hac_model.specs.Run.Costs.{answering};
+ghost use Rattle.hac_model.specs.Tree.Costs.{costs};
 ghost use Rattle.hac_model.specs.Tree.Events.{apply_all, dirty};
 ghost use Rattle.hac_model.specs.Script.Lines.{is_spelled_line};
 ghost use Rattle.hac_model.specs.Run.Refusals.{cause, early_refusal};
@@ -19,9 +22,11 @@ use crate::drafts::{Change, Draft, Known, Settled};
 use crate::settling::settled;
 use crate::showing::shown;
 use hac_model::{Answers, Deny, Event, Line, Memory, Reply, Resolved, Snapshot, Version};
+use hac_outside::Steps;
 use kept_links::LinkedState;
 use std::alloc::Global;
 use std::marker::Model;
+use std::sync::ledger::Ledger;
 
 /// A state that is kept with its links so that commands are quick, and the events for which memory
 /// was taken.
@@ -106,8 +111,15 @@ impl Machine {
     }
 
     /// Answers a command that reads, given what spaces answered to its questions. Only the space of
-    /// a document can have a cause against it: that the document is gone.
-    pub fn ask(&self, draft: Draft, answers: Answers) -> Result<Reply, Deny>
+    /// a document can have a cause against it: that the document is gone. A listing asks of no item
+    /// whether it has a term, since its links are kept. Only `find` does: it asks of each item once
+    /// for each term of its query, at most.
+    pub fn ask<L: Ledger>(
+        &self,
+        draft: Draft,
+        answers: Answers,
+        probes: &mut Steps<L>,
+    ) -> Result<Reply, Deny>
         requires made { IsDraft self.now.state draft }
         requires reads { reads draft ≡ true }
         requires answered { AreAnswersTo draft.asks answers }
@@ -115,10 +127,12 @@ impl Machine {
             IfOk result (Shows self.now.state answers command) }
         ensures refused { (command : Resolved) → IsDraftFor self.now.state command draft →
             IfErr result (λ deny. Refuses deny (cause answers self.now.state command)) }
+        ensures probes { (command : Resolved) → IsDraftFor self.now.state command draft →
+            probes.new ≤ probes.old + answering self.now.state command }
     {
         self.linked.kept().know_valid();
         match draft.into_known() {
-            Known::Reads(command) => shown(self.alloc, &self.linked, command, answers),
+            Known::Reads(command) => shown(self.alloc, &self.linked, command, answers, probes),
             Known::Changes(_) | Known::Indexes(_) | Known::Saves => unreachable!(),
         }
     }
@@ -145,23 +159,31 @@ impl Machine {
     }
 
     /// Takes the memory that events want, so that `commit` can apply them. The state doesn't
-    /// change, whatever the answer, and what was prepared before is dropped.
-    pub fn prepare(&mut self, settled: Settled) -> Result<(), Memory>
+    /// change, whatever the answer, and what was prepared before is dropped. How often it asks
+    /// whether an item has a term grows with what the events touch: with the items that they touch
+    /// themselves, and with those that come to or leave a directory that they change. All items are
+    /// asked only for a query that is new or changed.
+    pub fn prepare<L: Ledger>(
+        &mut self,
+        settled: Settled,
+        probes: &mut Steps<L>,
+    ) -> Result<(), Memory>
         requires { CanSettle self.old.state settled }
         ensures ok { OnOk result (self.new ≡ record
             { state = self.old.state; ready = settled_events settled }) }
         ensures err { OnErr result (self.new ≡ record { state = self.old.state; ready = [] }) }
+        ensures probes { probes.new ≤ probes.old + costs self.old.state (settled_events settled) }
     {
         match settled {
             Settled::Change(Change { event, counts }) => {
-                self.linked.prepare(self.alloc, event, counts)
+                self.linked.prepare(self.alloc, event, counts, probes)
             }
             Settled::Session(Event::Cd { session, dir }) => {
                 self.linked.prepare_session(self.alloc, session, dir)
             }
             Settled::Session(_) => unreachable!(),
-            Settled::Steps(count) => self.linked.prepare_steps(self.alloc, count),
-            Settled::Checkpoint => self.linked.prepare_steps(self.alloc, 0),
+            Settled::Steps(count) => self.linked.prepare_steps(self.alloc, count, probes),
+            Settled::Checkpoint => self.linked.prepare_steps(self.alloc, 0, probes),
         }
     }
 

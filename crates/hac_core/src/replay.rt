@@ -1,6 +1,8 @@
 //! A log that is replayed: its events happen one by one, and links are found behind the last.
-ghost use Rattle.std.specs.Prelude.{◌≡◌, if◌then◌else◌, [], IfOk, IsErrOf, IsTrue, OnOk, false};
+ghost use Rattle.std.specs.Prelude.{◌≡◌, ◌≤◌, ◌+◌, if◌then◌else◌, [], IfOk, IsErrOf, IsTrue};
+ghost use Rattle.std.specs.Prelude.{OnOk, false};
 ghost use Rattle.hac_model.specs.Payload.States.{restored};
+ghost use Rattle.hac_model.specs.Tree.Costs.{opening, weight};
 ghost use Rattle.hac_model.specs.Tree.Events.{accepted, apply};
 ghost use Rattle.hac_model.specs.Tree.Sessions.{is_stored};
 ghost use Rattle.hac_model.specs.Tree.Valid.{IsValid};
@@ -13,10 +15,12 @@ use crate::counting::version;
 use crate::fitting::fits;
 use crate::machine::Machine;
 use hac_model::{Counts, Event, Memory, Snapshot, Version};
+use hac_outside::Steps;
 use kept_links::UnlinkedState;
 use snapshots::LoadFault;
 use std::alloc::Global;
 use std::marker::Model;
+use std::sync::ledger::Ledger;
 
 /// A state that a log makes, event by event, seen as that state. Commands want its links, which are
 /// found once all events have happened.
@@ -72,14 +76,16 @@ impl Replay {
     }
 
     /// Applies an event that is stored if it can happen, and says whether it could. It may be any
-    /// such event, as one that was read from a log.
-    pub fn happen(&mut self, event: Event) -> Result<bool, Memory>
+    /// such event, as one that was read from a log. An event that prohibits an item has that one
+    /// judged; no other is judged here.
+    pub fn happen<L: Ledger>(&mut self, event: Event, probes: &mut Steps<L>) -> Result<bool, Memory>
         requires { IsTrue (is_stored event) }
         ensures happened { IfOk result (λ happened. happened ≡ accepted self.old event) }
         ensures state { OnOk result (self.new
             ≡ (if accepted self.old event then apply self.old event else self.old)) }
+        ensures probes { probes.new ≤ probes.old + weight self.old }
     {
-        match self.fits(&event) {
+        match self.fits(&event, probes) {
             Ok(Some(counts)) => {
                 self.unlinked.happen(self.alloc, event, counts)?;
                 Ok(true)
@@ -95,36 +101,48 @@ impl Replay {
         }
     }
 
-    /// The machine of this state, whose links are found now.
-    pub fn machine(self) -> Result<Machine, Memory>
+    /// The machine of this state, whose links are found now: each item is judged once by each
+    /// query.
+    pub fn machine<L: Ledger>(self, probes: &mut Steps<L>) -> Result<Machine, Memory>
         ensures machine { IfOk result (λ machine. machine ≡ record { state = self; ready = [] }) }
         ensures valid { IsValid self }
+        ensures probes { probes.new ≤ probes.old + opening self }
     {
         let Replay { alloc, unlinked } = self;
         unlinked.kept().know_valid();
         Ok(Machine {
             alloc,
-            linked: unlinked.linked(alloc)?,
+            linked: unlinked.linked(alloc, probes)?,
         })
     }
 
     /// Whether an event can happen, and how much the state would hold then.
-    fn fits(&mut self, event: &Event) -> Result<Option<Counts>, Memory>
+    fn fits<L: Ledger>(
+        &mut self,
+        event: &Event,
+        probes: &mut Steps<L>,
+    ) -> Result<Option<Counts>, Memory>
         ensures fits { IfOk result (FitsAs self.old event.now) }
         ensures same { self.new ≡ self.old }
+        ensures probes { probes.new ≤ probes.old + weight self.old }
     {
-        let found = self.prohibits_found(event)?;
+        let found = self.prohibits_found(event, probes)?;
         fits(self.alloc, self.unlinked.kept(), event, found)
     }
 
     /// Whether an event prohibits an item that the directory finds.
-    fn prohibits_found(&mut self, event: &Event) -> Result<bool, Memory>
+    fn prohibits_found<L: Ledger>(
+        &mut self,
+        event: &Event,
+        probes: &mut Steps<L>,
+    ) -> Result<bool, Memory>
         ensures found { IfOk result (λ found. found ≡ prohibits_found self.old event.now) }
         ensures same { self.new ≡ self.old }
+        ensures probes { probes.new ≤ probes.old + weight self.old }
     {
         match event {
             Event::Mark(mark) if mark.kind.is_prohibited() => {
-                self.unlinked.finds(self.alloc, mark.dir, mark.item)
+                self.unlinked.finds(self.alloc, mark.dir, mark.item, probes)
             }
             _ => Ok(false),
         }

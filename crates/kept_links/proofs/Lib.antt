@@ -7,3 +7,4 @@ pub mod MarkLemmas
 pub mod TaskLemmas
 pub mod EdgeLemmas
 pub mod AroundLemmas
+pub mod CostLemmas

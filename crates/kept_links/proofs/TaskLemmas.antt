@@ -1,5 +1,5 @@
 -- What is judged again after an event is enough.
-use Rattle.std.proofs.Common.{◌≡◌, ℕ, zero, Bool, true, false, List, [], ◌∷◌, ap, arith, inl, inr, refl, subst, sym, ◌∙◌}
+use Rattle.std.proofs.Common.{◌≡◌, ◌+◌, ◌*◌, ℕ, zero, Bool, true, false, List, [], ◌∷◌, length, ap, arith, eq-eqb, inl, inr, refl, subst, sym, ◌∙◌}
 use Rattle.std.proofs.lemmas.Bool.{eqb-true, and_parts}
 use Rattle.std.specs.Prelude.{◌==◌, ◌≢◌, ◌||◌, if◌then◌else◌, not, map, IfOk, IfSome, Result, Vec, Ok, Err, Option, Some, None, IsTrue, is_some, option_and_then}
 use Rattle.std.specs.List.{list_any}
@@ -9,7 +9,7 @@ use Rattle.hac_model.specs.Query.Formula.{Formula}
 use Rattle.hac_model.specs.Tree.Depends.{Among, depends}
 use Rattle.hac_model.specs.Tree.Events.{accepted, apply}
 use Rattle.hac_model.specs.Tree.Links.{has, is_item, is_judged, is_semantic, lenders}
-use Rattle.hac_model.specs.Tree.Touched.{begins, touched, touches}
+use Rattle.hac_model.specs.Tree.Touched.{begins, is_the, tied, touched, touches}
 use Rattle.hac_model.specs.Tree.Valid.{IsValid}
 use Rattle.hac_model.specs.Tree.{entry_at, is_document, is_linkable, shown_text}
 use Rattle.hac_model.specs.declared.events.Event.{Event}
@@ -26,6 +26,7 @@ use Rattle.hac_model.proofs.TreeLemmas.{entry_at-next}
 use Rattle.query_index.specs.Seen.{IsIndexOf}
 use Rattle.reeval.specs.Judging.{is_linked, no_verdict, verdict_of}
 use Rattle.reeval.proofs.JudgeLemmas.{links-judged}
+use Rattle.reeval.specs.Probes.{terms_along, terms_planned, terms_settled}
 use Rattle.reeval.specs.Routes.{Covers}
 use Rattle.reeval.specs.declared.planning.Task.{Task}
 use Rattle.reeval.specs.declared.settling.Stop.{Stop}
@@ -35,17 +36,20 @@ use Rattle.reeval.proofs.PlanLemmas.{begins-more, no-item, unmoved, unjudged-sai
 use Rattle.reeval.proofs.SettleLemmas.{has-among}
 use Rattle.kept_links.specs.Items.{is_passed_over, others}
 use Rattle.kept_links.specs.Kept.{is_still}
-use Rattle.kept_links.specs.Tasks.{AreAlong, IsTaskOf, IsWayFrom, begins_touched}
+use Rattle.kept_links.specs.Tasks.{AreAlong, IsTaskOf, IsWayFrom, begins_touched, is_tie}
 use Rattle.reindex.specs.Past.{Lead}
 use Rattle.reindex.specs.Steps.{AreSettled}
 use Rattle.reindex.specs.Ways.{IsWayOver, IsWayOf, begun_at, leans, needed, with_first, stops_at, stops_everywhere}
 use Rattle.reindex.specs.declared.ways.Way.{Way}
+use Rattle.reeval.proofs.TieLemmas.{ties-leave}
+use Rattle.kept_links.proofs.CostLemmas.{from-most, touched-most}
 use Rattle.kept_links.proofs.EdgeLemmas.{edges-still, lends-still}
 use Rattle.kept_links.proofs.ItemLemmas.{in-neither, others-once, others-untouched, touched-apart, touched-once, touched-touches}
 use Rattle.kept_links.proofs.NewDirLemmas.{passed-over}
 use Rattle.kept_links.proofs.SemanticLemmas.{asks-still, semantic-still}
 use Rattle.kept_links.proofs.MarkLemmas.{mark-begins, mark-leaves}
 use Rattle.reindex.proofs.SettledLemmas.{leads-if}
+use Rattle.reindex.proofs.ProbeLemmas.{along-needed}
 use Rattle.reindex.proofs.NeededLemmas.{covers-needed, needed-everywhere}
 use Rattle.reindex.proofs.WayLemmas.{begun-way, covers-at, covers-everywhere, covers-from, depends-semantic, leans-well, semantic-depends, way-over}
 
@@ -98,6 +102,25 @@ passed-still s (Ssync mount documents told) valid ok item over dir = absurd cc
 passed-still s (Sumount mount) valid ok item over dir = absurd cc
 passed-still s Step valid ok item over dir = absurd cc
 passed-still s (Cd session parent) valid ok item over dir = absurd cc
+
+-- a mark of a directory begins where it ties
+tie-begins : (s : State) (event : Event) (first : ℕ) → is_tie event ≡ true → begins s event first ≡ true → is_the (tied s event) first ≡ true
+tie-begins s (Mark mark) first ties is = elim (is_the (tied s (Mark mark)) first) as (λ b. (false || b || false) ≡ true → b ≡ true) [ true ↦ (λ _. refl) | false ↦ (λ never. never) ] is
+tie-begins s (Rmdir parent) first ties is = absurd cc
+tie-begins s (Mkdir parent name) first ties is = absurd cc
+tie-begins s (Rewrite file text) first ties is = absurd cc
+tie-begins s (Ln parent name target) first ties is = absurd cc
+tie-begins s (NewFile parent name text) first ties is = absurd cc
+tie-begins s (Smkdir parent name query told) first ties is = absurd cc
+tie-begins s (Setq parent query told) first ties is = absurd cc
+tie-begins s (Unq parent) first ties is = absurd cc
+tie-begins s (Mv entry to name) first ties is = absurd cc
+tie-begins s (Rm entry) first ties is = absurd cc
+tie-begins s (Smount parent name space documents told) first ties is = absurd cc
+tie-begins s (Ssync mount documents told) first ties is = absurd cc
+tie-begins s (Sumount mount) first ties is = absurd cc
+tie-begins s Step first ties is = absurd cc
+tie-begins s (Cd session parent) first ties is = absurd cc
 
 -- The stops of an item that is touched.
 
@@ -153,10 +176,11 @@ module _ (s : State) (event : Event) (valid : IsValid s) (ok : IsTrue (accepted 
       subst (λ (stops : List Stop). Covers s t stops item) (sym w.stops) (covers-all s event valid ok way w item is)
 
   -- and any other one
-  covers-other : (first : ℕ) (stops : List Stop) → ((dir : ℕ) → begins s event dir ≡ (dir == first)) → AreAlong t first stops → (item : ℕ) → touches s event item ≡ false → Covers s t stops item
+  covers-other : (first : ℕ) (stops : List Stop) → ((dir : ℕ) → begins s event dir ≡ (dir == first)) → AreAlong t first (is_tie event) stops → (item : ℕ) → touches s event item ≡ false → Covers s t stops item
   covers-other first stops begun way item untouched =
       subst (λ (stops : List Stop). Covers s t stops item) (sym way.are)
-      (covers-from s t first way.cone (begins s event) valid next-valid way.reach begun item (events-leave s event valid ok item untouched))
+      (covers-from s t first (is_tie event) way.cone (begins s event) valid next-valid way.reach begun item (events-leave s event valid ok item untouched)
+      (λ ties. ties-leave s event valid ok item untouched first (tie-begins s event first ties (begun first ∙ eq-eqb first first refl))))
 
   -- what is in neither list is passed over, or is no item
   neither : (item : ℕ) → ¬ Among (touched s event) item → ¬ Among (others s event) item → (dir : ℕ) → verdict_of s item dir ≡ verdict_of t item dir
@@ -176,6 +200,7 @@ module _ (s : State) (event : Event) (valid : IsValid s) (ok : IsTrue (accepted 
       after = next-valid;
       route = record { ordered = tt; closed = λ d e edge inside. inside; alone = tt };
       alike = begins-more s t item (begins s event) (λ d. false) (λ d _. never d) (events-leave s event valid ok item untouched);
+      tied = λ d is. absurd cc;
     }) dir)
   ] refl
 
@@ -186,7 +211,7 @@ module _ (s : State) (event : Event) (valid : IsValid s) (ok : IsTrue (accepted 
       leads-if s t items result settled (λ item out dir. stays never item (λ inside. out (subst (λ (ns : List ℕ). Among ns item) (sym are) inside)) dir)
 
   pub task-from : (task : Task) (first : ℕ) (way : Way) → task.touched.items ≡ touched s event → IsWayOf t way → task.everywhere.items ≡ way.stops.items → ((dir : ℕ) → begins s event dir ≡ (dir == first)) →
-      task.others.items ≡ others s event → AreAlong t first task.along.items → IsTaskOf s event task
+      task.others.items ≡ others s event → AreAlong t first (is_tie event) task.along.items → IsTaskOf s event task
   task-from task first way is w everywhere begun are along = record {
     touched = subst EachOnce (sym is) (touched-once s event);
     others = subst EachOnce (sym are) (others-once s event);
@@ -196,8 +221,12 @@ module _ (s : State) (event : Event) (valid : IsValid s) (ok : IsTrue (accepted 
       others = λ item within. covers-other first task.along.items begun along item (others-untouched s event item (in-others item within)).1;
       rest = λ item out away dir. neither item (λ inside. out (subst (λ (items : List ℕ). Among items item) (sym is) inside)) (λ within. away (subst (λ (items : List ℕ). Among items item) (sym are) within)) dir;
     };
+    most = omega (arith, same, from-most s event valid ok first begun way task.along.items w along);
   }
     where
+      same : terms_planned s t task ≡ length (touched s event) * terms_along t way.stops.items + terms_settled s t task.along.items (others s event)
+      same = λ i. length (is i) * terms_along t (everywhere i) + terms_settled s t task.along.items (are i)
+
       in-touched : (item : ℕ) → Among task.touched.items item → Among (touched s event) item
       in-touched item inside = subst (λ (items : List ℕ). Among items item) is inside
 
@@ -216,8 +245,12 @@ module _ (s : State) (event : Event) (valid : IsValid s) (ok : IsTrue (accepted 
       others = λ item within. absurd (nobody item within);
       rest = λ item out away dir. stays never item (λ inside. out (subst (λ (items : List ℕ). Among items item) (sym is) inside)) dir;
     };
+    most = omega (arith, same, touched-most s event valid ok (terms_along t (needed (begun_at (begins_touched event) way.stops.items))) (along-needed t way w next-valid (begins_touched event)));
   }
     where
+      same : terms_planned s t task ≡ length (touched s event) * terms_along t (needed (begun_at (begins_touched event) way.stops.items)) + 0
+      same = (λ i. length (is i) * terms_along t (where_touched i) + terms_settled s t task.along.items (none i)) ∙ omega arith
+
       nobody : (item : ℕ) → ¬ Among task.others.items item
       nobody item within = subst (λ (items : List ℕ). Among items item) none within
 

@@ -1,5 +1,6 @@
 -- An event that is to happen, with all that is known before it.
 use Rattle.std.specs.Prelude.{◌≡◌, ℕ, false, List, [], ◌∷◌, IsTrue}
+use Rattle.hac_model.specs.Tree.Costs.{cost}
 use Rattle.hac_model.specs.Tree.Events.{accepted, apply}
 use Rattle.hac_model.specs.Tree.Touched.{begins}
 use Rattle.hac_model.specs.declared.states.State.{State}
@@ -15,6 +16,10 @@ state_before coming = coming.kept.now.state
 
 abbrev pub state_behind : Coming → State
 state_behind coming = apply coming.kept.now.state coming.event.now
+
+-- how many questions the event may take
+abbrev pub cost_of : Coming → ℕ
+cost_of coming = cost (state_before coming) coming.event.now
 
 -- the event can happen, the state is ready for it, and beside the state are its links and its way
 pub record IsComing (coming : Coming) : Type 0 where

@@ -1,7 +1,8 @@
 //! The state with its links, and the events that it is ready for.
-ghost use Rattle.std.specs.Prelude.{◌≡◌, ◌∷◌, [], IfOk, IsTrue, None, OnErr, OnOk, replicate};
-ghost use Rattle.std.specs.Prelude.{unwrap_or};
+ghost use Rattle.std.specs.Prelude.{◌≡◌, ◌≤◌, ◌+◌, ◌∷◌, [], IfOk, IsTrue, None, OnErr, OnOk};
+ghost use Rattle.std.specs.Prelude.{replicate, unwrap_or};
 ghost use Rattle.hac_model.specs.Laws.{AllHappen};
+ghost use Rattle.hac_model.specs.Tree.Costs.{cost, costs};
 ghost use Rattle.hac_model.specs.Tree.Events.{accepted, apply, apply_all};
 ghost use Rattle.hac_model.specs.Tree.Limits as limits;
 ghost use Rattle.hac_model.specs.Tree.Links.{atom};
@@ -12,6 +13,7 @@ ghost use Rattle.reeval.specs.Settled.{AreLinksOf};
 
 use crate::news::prepared_news;
 use hac_model::{Counts, Event, Memory, Name, Number, Term, Version};
+use hac_outside::Steps;
 use hac_words::has_term;
 use kept_state::KeptState;
 use link_kinds::Links;
@@ -21,6 +23,7 @@ use reindex::lookups::{is_document, know_lists, parent_of};
 use reindex::{Way, delta_of_steps, shown_of};
 use std::alloc::Global;
 use std::marker::Model;
+use std::sync::ledger::Ledger;
 
 /// A state with its links, seen as that state and as the events for which memory was taken.
 #[derive(Drop)]
@@ -83,10 +86,12 @@ impl LinkedState {
     }
 
     /// Whether an item has a term: a document by what its mount keeps, a file by its text as it was
-    /// last indexed.
-    pub fn has(&self, term: &Term, item: Number) -> bool
-        ensures { result ≡ atom self.now.state term.now item }
+    /// last indexed. That is one probe.
+    pub fn has<L: Ledger>(&self, term: &Term, item: Number, probes: &mut Steps<L>) -> bool
+        ensures answer { result ≡ atom self.now.state term.now item }
+        ensures probe { probes.new ≡ probes.old + 1 }
     {
+        probes.tick();
         if is_document(&self.kept, item) {
             return self
                 .kept
@@ -101,22 +106,29 @@ impl LinkedState {
     /// Takes the memory that an event wants that is stored, so that `commit` can apply it. How much
     /// the state then holds is given. The state doesn't change, whatever the answer, and what was
     /// prepared before is dropped.
-    pub fn prepare(&mut self, alloc: Global, event: Event, counts: Counts) -> Result<(), Memory>
+    pub fn prepare<L: Ledger>(
+        &mut self,
+        alloc: Global,
+        event: Event,
+        counts: Counts,
+        probes: &mut Steps<L>,
+    ) -> Result<(), Memory>
         requires accepted { IsTrue (accepted self.old.state event) }
         requires stored { IsTrue (is_stored event) }
         requires counts { counts ≡ limits.counts (apply self.old.state event) }
         ensures ok { OnOk result (self.new
             ≡ record { state = self.old.state; ready = event ∷ [] }) }
         ensures err { OnErr result (self.new ≡ record { state = self.old.state; ready = [] }) }
+        ensures probes { probes.new ≤ probes.old + cost self.old.state event }
     {
         if is_quiet(&event) {
             drop(event);
-            return self.prepare_steps(alloc, 1);
+            return self.prepare_steps(alloc, 1, probes);
         }
         self.delta.clear();
         self.next = None;
         self.kept.prepare(alloc, event, counts)?;
-        match prepared_news(alloc, &self.kept, &mut self.found, &self.way) {
+        match prepared_news(alloc, &self.kept, &mut self.found, &self.way, probes) {
             Ok(news) => {
                 self.delta = news.delta;
                 self.next = news.way;
@@ -149,17 +161,24 @@ impl LinkedState {
     }
 
     /// Takes the memory that steps want: what is new in the links of the files that they index.
-    pub fn prepare_steps(&mut self, alloc: Global, count: u64) -> Result<(), Memory>
+    pub fn prepare_steps<L: Ledger>(
+        &mut self,
+        alloc: Global,
+        count: u64,
+        probes: &mut Steps<L>,
+    ) -> Result<(), Memory>
         requires { AllHappen self.old.state (replicate count Event.Step) }
         ensures ok { OnOk result (self.new
             ≡ record { state = self.old.state; ready = replicate count Event.Step }) }
         ensures err { OnErr result (self.new ≡ record { state = self.old.state; ready = [] }) }
+        ensures probes { probes.new ≤ probes.old
+            + costs self.old.state (replicate count Event.Step) }
     {
         self.delta.clear();
         self.next = None;
         self.kept.prepare_steps(0);
         self.kept.know_valid();
-        let delta = delta_of_steps(alloc, &self.kept, &self.found, &self.way, count)?;
+        let delta = delta_of_steps(alloc, &self.kept, &self.found, &self.way, count, probes)?;
         reserve(&mut self.found, delta.as_slice())?;
         self.kept.prepare_steps(count);
         self.delta = delta;

@@ -1,7 +1,9 @@
 //! What is new in the links behind an event.
-ghost use Rattle.std.specs.Prelude.{◌≡◌, ◌==◌, ℕ, false, IfOk};
+ghost use Rattle.std.specs.Prelude.{◌≡◌, ◌≤◌, ◌+◌, ◌==◌, ℕ, false, IfOk};
+ghost use Rattle.hac_model.specs.Tree.Costs.{costs};
 ghost use Rattle.hac_model.specs.Tree.Touched.{begins};
-ghost use Rattle.kept_links.specs.Coming.{BeginsNowhere, IsComing, state_before, state_behind};
+ghost use Rattle.kept_links.specs.Coming.{BeginsNowhere, IsComing, cost_of};
+ghost use Rattle.kept_links.specs.Coming.{state_before, state_behind};
 ghost use Rattle.kept_links.specs.Kept.{AreNews, is_still};
 ghost use Rattle.kept_state.specs.After.{are_quiet, next_state};
 ghost use Rattle.link_kinds.specs.Seen.{SameKinds};
@@ -14,11 +16,13 @@ use crate::outlook::Outlook;
 use crate::tasks::{task_from, way_next};
 use crate::touched::delta_of_touched;
 use hac_model::{Event, Memory, Number};
+use hac_outside::Steps;
 use kept_state::KeptState;
 use link_kinds::Links;
 use reeval::{Change, plan, reserve};
 use reindex::{Past, Way};
 use std::alloc::Global;
+use std::sync::ledger::Ledger;
 
 /// What is new behind an event.
 #[derive(Drop)]
@@ -31,11 +35,12 @@ pub(crate) struct News {
 
 /// What will be new behind the event that a state is ready for, which is no step and moves no
 /// session, and the memory for it. No link changes, whatever the answer.
-pub(crate) fn prepared_news(
+pub(crate) fn prepared_news<L: Ledger>(
     alloc: Global,
     kept: &KeptState,
     found: &mut Links,
     way: &Way,
+    probes: &mut Steps<L>,
 ) -> Result<News, Memory>
     requires links { AreLinksOf kept.now.state found.old }
     requires way { IsWayOf kept.now.state way.now }
@@ -43,18 +48,26 @@ pub(crate) fn prepared_news(
     ensures same { SameKinds found.old found.new }
     ensures news { IfOk result (AreNews kept.now.state (next_state kept.now) way.now) }
     ensures room { IfOk result (λ news. HasRoom found.new news.delta.items) }
+    ensures probes { probes.new ≤ probes.old + costs kept.now.state kept.now.ready }
 {
-    let news = next_news(alloc, kept, found, way)?;
+    let news = next_news(alloc, kept, found, way, probes)?;
     reserve(found, news.delta.as_slice())?;
     Ok(news)
 }
 
 /// What will be new behind the event that a state is ready for.
-fn next_news(alloc: Global, kept: &KeptState, found: &Links, way: &Way) -> Result<News, Memory>
+fn next_news<L: Ledger>(
+    alloc: Global,
+    kept: &KeptState,
+    found: &Links,
+    way: &Way,
+    probes: &mut Steps<L>,
+) -> Result<News, Memory>
     requires links { AreLinksOf kept.now.state found.now }
     requires way { IsWayOf kept.now.state way.now }
     requires event { are_quiet kept.now.ready ≡ false }
-    ensures { IfOk result (AreNews kept.now.state (next_state kept.now) way.now) }
+    ensures news { IfOk result (AreNews kept.now.state (next_state kept.now) way.now) }
+    ensures probes { probes.new ≤ probes.old + costs kept.now.state kept.now.ready }
 {
     match kept.event() {
         Some(event) => news_of(
@@ -65,16 +78,22 @@ fn next_news(alloc: Global, kept: &KeptState, found: &Links, way: &Way) -> Resul
                 way,
                 event,
             },
+            probes,
         ),
         None => unreachable!(),
     }
 }
 
 /// What will be new behind this event.
-fn news_of(alloc: Global, coming: &Coming<'_>) -> Result<News, Memory>
+fn news_of<L: Ledger>(
+    alloc: Global,
+    coming: &Coming<'_>,
+    probes: &mut Steps<L>,
+) -> Result<News, Memory>
     requires { IsComing coming.now }
-    ensures { IfOk result
+    ensures news { IfOk result
         (AreNews (state_before coming.now) (state_behind coming.now) coming.now.way.now) }
+    ensures probes { probes.new ≤ probes.old + cost_of coming.now }
 {
     coming.kept.know_valid();
     if is_still(coming.way, coming.event) {
@@ -84,8 +103,8 @@ fn news_of(alloc: Global, coming: &Coming<'_>) -> Result<News, Memory>
         });
     }
     match begin(coming.kept, coming.event) {
-        Some(first) => news_from(alloc, coming, first),
-        None => news_of_touched(alloc, coming),
+        Some(first) => news_from(alloc, coming, first, probes),
+        None => news_of_touched(alloc, coming, probes),
     }
 }
 
@@ -101,12 +120,18 @@ fn is_still(way: &Way, event: &Event) -> bool
 }
 
 /// What will be new behind an event that begins at a directory.
-fn news_from(alloc: Global, coming: &Coming<'_>, first: Number) -> Result<News, Memory>
+fn news_from<L: Ledger>(
+    alloc: Global,
+    coming: &Coming<'_>,
+    first: Number,
+    probes: &mut Steps<L>,
+) -> Result<News, Memory>
     requires coming { IsComing coming.now }
     requires begins { (dir : ℕ) → begins (state_before coming.now) coming.now.event.now dir
         ≡ (dir == first) }
-    ensures { IfOk result
+    ensures news { IfOk result
         (AreNews (state_before coming.now) (state_behind coming.now) coming.now.way.now) }
+    ensures probes { probes.new ≤ probes.old + cost_of coming.now }
 {
     let Coming {
         kept,
@@ -118,7 +143,8 @@ fn news_from(alloc: Global, coming: &Coming<'_>, first: Number) -> Result<News, 
     let outlook = Outlook::new(kept, event);
     let way = way_next(alloc, kept, &outlook, first)?;
     let task = task_from(alloc, kept, &outlook, event, &way, first)?;
-    let delta = plan(alloc, &outlook, &outlook, &Past { kept, found }, &task)?;
+    let past = Past { kept, found };
+    let delta = plan(alloc, &outlook, &outlook, &past, &task, probes)?;
     Ok(News {
         delta,
         way: Some(way),
@@ -126,13 +152,18 @@ fn news_from(alloc: Global, coming: &Coming<'_>, first: Number) -> Result<News, 
 }
 
 /// What will be new behind an event that begins at no directory.
-fn news_of_touched(alloc: Global, coming: &Coming<'_>) -> Result<News, Memory>
+fn news_of_touched<L: Ledger>(
+    alloc: Global,
+    coming: &Coming<'_>,
+    probes: &mut Steps<L>,
+) -> Result<News, Memory>
     requires coming { IsComing coming.now }
     requires never { BeginsNowhere coming.now }
-    ensures { IfOk result
+    ensures news { IfOk result
         (AreNews (state_before coming.now) (state_behind coming.now) coming.now.way.now) }
+    ensures probes { probes.new ≤ probes.old + cost_of coming.now }
 {
     coming.kept.know_valid();
-    let delta = delta_of_touched(alloc, coming)?;
+    let delta = delta_of_touched(alloc, coming, probes)?;
     Ok(News { delta, way: None })
 }

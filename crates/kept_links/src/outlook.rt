@@ -5,12 +5,14 @@ ghost use Rattle.hac_model.specs.Tree.Links.{atom};
 ghost use Rattle.hac_model.specs.Tree.Mounting.{is_document_of};
 
 use hac_model::{Event, Number, Query, Term};
+use hac_outside::Steps;
 use hac_words::has_term;
 use kept_state::KeptState;
 use query_eval::Atoms;
 use reeval::Layout;
 use scope_rules::Scope;
 use std::marker::Model;
+use std::sync::ledger::Ledger;
 
 /// A state that is ready for an event, seen as the state behind it.
 #[derive(Drop)]
@@ -106,7 +108,8 @@ impl<'a> Layout for Outlook<'a> {
 impl<'a> Atoms for Outlook<'a> {
     ghost atoms = { λ outlook. atom outlook };
 
-    fn has(&self, term: &Term, item: Number) -> bool {
+    fn has<L: Ledger>(&self, term: &Term, item: Number, probes: &mut Steps<L>) -> bool {
+        probes.tick();
         if self.scope.is_document(item) {
             self.kept
                 .has_answer_next(self.scope.parent(item), term, item)

@@ -3,7 +3,7 @@ ghost use Rattle.std.specs.Prelude.{◌≡◌, ◌==◌, ℕ, IfOk, IsTrue, fals
 ghost use Rattle.hac_model.specs.Tree.Events.{accepted, apply};
 ghost use Rattle.hac_model.specs.Tree.Touched.{begins};
 ghost use Rattle.hac_model.specs.declared.states.State.{State};
-ghost use Rattle.kept_links.specs.Tasks.{AreAlong, IsTaskOf, IsWayFrom, begins_touched};
+ghost use Rattle.kept_links.specs.Tasks.{AreAlong, IsTaskOf, IsWayFrom, begins_touched, is_tie};
 ghost use Rattle.kept_state.specs.After.{next_state};
 ghost use Rattle.reindex.specs.Ways.{IsWayOf, begun_at, needed};
 
@@ -86,7 +86,7 @@ pub(crate) fn task_from(
     kept.know_valid();
     let touched = touched_items(alloc, kept, outlook, event)?;
     let others = other_items(alloc, kept, outlook, event)?;
-    let along = along(alloc, kept, first)?;
+    let along = along(alloc, kept, first, is_tie(event))?;
     Ok(Task {
         touched,
         everywhere: Vec::from_slice(alloc, way.stops.as_slice())?,
@@ -111,11 +111,19 @@ pub(crate) fn way_next(
     way_over(alloc, outlook, order.as_slice())
 }
 
-/// The way of any other item: from a directory on.
-fn along(alloc: Global, kept: &KeptState, first: Number) -> Result<Vec<Stop>, Memory>
-    ensures { IfOk result (λ stops. AreAlong (next_state kept.now) first stops.items) }
+/// The way of any other item: from a directory on, where only what is lent to it may be new if it
+/// `ties`.
+fn along(alloc: Global, kept: &KeptState, first: Number, ties: bool) -> Result<Vec<Stop>, Memory>
+    ensures { IfOk result (λ stops. AreAlong (next_state kept.now) first ties stops.items) }
 {
     let cone = kept.cone_next(alloc, &[first])?;
     let dirs = with_first(alloc, first, cone.as_slice())?;
-    stops_from(alloc, first, dirs.as_slice())
+    stops_from(alloc, first, ties, dirs.as_slice())
+}
+
+/// Whether an event that begins at a directory changes there only what is lent to it: a mark does.
+fn is_tie(event: &Event) -> bool
+    ensures { result ≡ is_tie event.now }
+{
+    matches!(event, Event::Mark(_))
 }

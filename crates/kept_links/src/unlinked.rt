@@ -1,5 +1,6 @@
 //! A state that a log makes, event by event. Its links are found once, behind the last.
-ghost use Rattle.std.specs.Prelude.{◌≡◌, [], IfOk, IfSome, IsTrue, OnErr, OnOk};
+ghost use Rattle.std.specs.Prelude.{◌≡◌, ◌≤◌, ◌+◌, [], IfOk, IfSome, IsTrue, OnErr, OnOk};
+ghost use Rattle.hac_model.specs.Tree.Costs.{opening, weight};
 ghost use Rattle.hac_model.specs.Tree.Events.{accepted, apply};
 ghost use Rattle.hac_model.specs.Tree.Limits as limits;
 ghost use Rattle.hac_model.specs.Tree.Links.{has, transient_at};
@@ -11,11 +12,13 @@ ghost use Rattle.reindex.specs.Ways.{IsWayOf};
 use crate::items::begin;
 use crate::linked::LinkedState;
 use hac_model::{Counts, Event, Memory, Number, Version};
+use hac_outside::Steps;
 use kept_state::KeptState;
 use link_kinds::Links;
 use reindex::{Way, finds, links_of, way_of};
 use std::alloc::Global;
 use std::marker::Model;
+use std::sync::ledger::Ledger;
 
 /// A state without its links, seen as that state.
 #[derive(Drop)]
@@ -67,15 +70,22 @@ impl UnlinkedState {
     }
 
     /// Whether a directory finds an item: its query does, and the user says nothing of it there.
-    pub fn finds(&mut self, alloc: Global, dir: Number, item: Number) -> Result<bool, Memory>
+    pub fn finds<L: Ledger>(
+        &mut self,
+        alloc: Global,
+        dir: Number,
+        item: Number,
+        probes: &mut Steps<L>,
+    ) -> Result<bool, Memory>
         ensures finds { IfOk result (λ finds. finds ≡ has (transient_at self.old dir) item) }
         ensures same { self.new ≡ self.old }
+        ensures probes { probes.new ≤ probes.old + weight self.old }
     {
         let way = match self.way.take() {
             Some(way) => way,
             None => way_of(alloc, &self.kept)?,
         };
-        let found = finds(alloc, &self.kept, &way, dir, item);
+        let found = finds(alloc, &self.kept, &way, dir, item, probes);
         self.way = Some(way);
         found
     }
@@ -96,10 +106,15 @@ impl UnlinkedState {
     }
 
     /// The same state with its links.
-    pub fn linked(self, alloc: Global) -> Result<LinkedState, Memory>
-        ensures { IfOk result (λ linked. linked ≡ record { state = self; ready = [] }) }
+    pub fn linked<L: Ledger>(
+        self,
+        alloc: Global,
+        probes: &mut Steps<L>,
+    ) -> Result<LinkedState, Memory>
+        ensures linked { IfOk result (λ linked. linked ≡ record { state = self; ready = [] }) }
+        ensures probes { probes.new ≤ probes.old + opening self }
     {
-        match way_and_links(alloc, &self.kept) {
+        match way_and_links(alloc, &self.kept, probes) {
             Ok((way, found)) => Ok(LinkedState {
                 kept: self.kept,
                 found,
@@ -116,12 +131,17 @@ impl UnlinkedState {
 }
 
 /// The way to all semantic directories of a state, and its links.
-fn way_and_links(alloc: Global, kept: &KeptState) -> Result<(Way, Links), Memory>
+fn way_and_links<L: Ledger>(
+    alloc: Global,
+    kept: &KeptState,
+    probes: &mut Steps<L>,
+) -> Result<(Way, Links), Memory>
     ensures way { IfOk result (λ both. IsWayOf kept.now.state both.0) }
     ensures links { IfOk result (λ both. AreLinksOf kept.now.state both.1) }
+    ensures probes { probes.new ≤ probes.old + opening kept.now.state }
 {
     let way = way_of(alloc, kept)?;
-    match links_of(alloc, kept, &way) {
+    match links_of(alloc, kept, &way, probes) {
         Ok(found) => Ok((way, found)),
         Err(memory) => {
             drop(way);

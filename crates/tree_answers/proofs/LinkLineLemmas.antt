@@ -13,6 +13,10 @@ use Rattle.file_tree.specs.Answers.{numbers_of}
 use Rattle.tree_answers.specs.Finding.{is_found_as}
 use Rattle.tree_answers.proofs.RangeLemmas.{entries-pass}
 
+-- the items among the numbers of entries are all
+pub items-all : (s : State) → NumbersRise 0 s.entries s.next → filter (is_item s) (numbers_of s.entries) ≡ items s
+items-all s numbers = sym (entries-pass s.entries s.next numbers (is_item s) (λ n is. tested-entry s.entries is_linkable n is))
+
 module _ (s : State) (atoms : Term → ℕ → Bool) (other : State) (asked : Formula ℕ) where
   -- the item is judged, and satisfies the query
   abbrev passes : ℕ → Bool
@@ -31,5 +35,5 @@ module _ (s : State) (atoms : Term → ℕ → Bool) (other : State) (asked : Fo
   unfolding found_as
   found-told numbers same =
       sym (items-found (numbers_of s.entries))
-      ∙ ap (filter passes) (sym (entries-pass s.entries s.next numbers (is_item s) (λ n is. tested-entry s.entries is_linkable n is)))
+      ∙ ap (filter passes) (items-all s numbers)
       ∙ (λ i. filter (λ item. is_judged s item && query_meaning (λ term item. sym (same term item) i) (provide s (column (links s) item)) asked item) (items s))

@@ -1,9 +1,11 @@
 //! The lines of links: those of a semantic directory, and what a query finds anywhere.
-ghost use Rattle.std.specs.Prelude.{◌≡◌, ◌∷◌, ◌++◌, [], filter, length, map, if◌then◌else◌, IfOk};
-ghost use Rattle.std.specs.Prelude.{OnOk};
+ghost use Rattle.std.specs.Prelude.{◌≡◌, ◌≤◌, ◌+◌, ◌*◌, ◌∷◌, ◌++◌, [], filter, length, map};
+ghost use Rattle.std.specs.Prelude.{if◌then◌else◌, IfOk, OnOk};
 ghost use Rattle.file_tree.specs.Answers.{numbers_of};
+ghost use Rattle.hac_model.specs.Query.Queries.{terms};
 ghost use Rattle.hac_model.specs.Tree.Asking.{with_told};
-ghost use Rattle.hac_model.specs.Tree.Links.{found_as, kind};
+ghost use Rattle.hac_model.specs.Tree.Costs.{finding};
+ghost use Rattle.hac_model.specs.Tree.Links.{found_as, is_item, kind};
 ghost use Rattle.hac_model.specs.Tree.Paths.{path_text};
 ghost use Rattle.hac_model.specs.Run.Asks.{query_asks, told_for};
 ghost use Rattle.hac_model.specs.Run.Play.{found_line, kind_lines, link_lines};
@@ -17,9 +19,11 @@ use crate::lookups::{is_document, is_judged_item};
 use crate::telling::{Told, satisfies_told};
 use hac_model::{Kind, Memory, Name, Number, Query, Seq};
 use hac_names::print_path;
+use hac_outside::Steps;
 use kept_links::LinkedState;
 use kept_state::KeptState;
 use std::alloc::Global;
+use std::sync::ledger::Ledger;
 
 /// The items and directories that are linked in a semantic directory, each with the letter of its
 /// kind, in order of number. Only what is linked there is looked at.
@@ -98,17 +102,19 @@ fn push_link(
 }
 
 /// The items that a query finds anywhere, in order of number, given the names that spaces answered
-/// to the questions for it.
-pub fn found_lines(
+/// to the questions for it. Each item is judged once.
+pub fn found_lines<L: Ledger>(
     alloc: Global,
     linked: &LinkedState,
     query: &Query<Number>,
     names: &[Seq<Name>],
+    probes: &mut Steps<L>,
 ) -> Result<Vec<Name>, Memory>
     requires { length names.now ≡ length (query_asks linked.now.state query.now).searches }
-    ensures { let told = told_for linked.now.state query.now names.now in
+    ensures lines { let told = told_for linked.now.state query.now names.now in
         IfOk result (λ lines. lines.items ≡ map (found_line linked.now.state)
         (found_as (with_told query.now told linked.now.state) linked.now.state query.now)) }
+    ensures probes { probes.new ≤ probes.old + finding linked.now.state query.now }
 {
     let kept = linked.kept();
     kept.know_valid();
@@ -119,50 +125,65 @@ pub fn found_lines(
         questions: questions.as_slice(),
         documents: documents.as_slice(),
     };
-    lines_of_found(alloc, &told, query)
+    lines_of_found(alloc, &told, query, probes)
 }
 
 /// The lines of the items that a query finds.
-fn lines_of_found(
+fn lines_of_found<L: Ledger>(
     alloc: Global,
     told: &Told<'_>,
     query: &Query<Number>,
+    probes: &mut Steps<L>,
 ) -> Result<Vec<Name>, Memory>
-    ensures { IfOk result (λ lines. lines.items ≡ map (found_line told.now.linked.now.state)
+    ensures lines { IfOk result (λ lines. lines.items ≡ map (found_line told.now.linked.now.state)
         (filter (is_found_told told.now query.now)
         (numbers_of told.now.linked.now.state.entries))) }
+    ensures probes { probes.new ≤ probes.old
+        + length (filter (is_item told.now.linked.now.state)
+        (numbers_of told.now.linked.now.state.entries)) * terms query.now }
 {
     let mut lines = Vec::new(alloc);
     for number in told.linked.kept().numbers(alloc)? {
-        push_found(alloc, &mut lines, told, query, number)?;
+        push_found(alloc, &mut lines, told, query, number, probes)?;
     }
     Ok(lines)
 }
 
 /// Adds the line of a number, if the query finds it.
-fn push_found(
+fn push_found<L: Ledger>(
     alloc: Global,
     lines: &mut Vec<Name>,
     told: &Told<'_>,
     query: &Query<Number>,
     item: Number,
+    probes: &mut Steps<L>,
 ) -> Result<(), Memory>
-    ensures { OnOk result (lines.new.items ≡ lines.old.items ++
+    ensures lines { OnOk result (lines.new.items ≡ lines.old.items ++
         (if is_found_told told.now query.now item
         then found_line told.now.linked.now.state item ∷ []
         else [])) }
+    ensures probes { probes.new ≤ probes.old
+        + (if is_item told.now.linked.now.state item then terms query.now else 0) }
 {
-    if is_found(told, query, item) {
+    if is_found(told, query, item, probes) {
         lines.push(found_line(alloc, told.linked.kept(), item)?)?;
     }
     Ok(())
 }
 
-/// Whether a query finds a number: that of an item that it judges, and which satisfies it.
-fn is_found(told: &Told<'_>, query: &Query<Number>, number: Number) -> bool
-    ensures { result ≡ is_found_told told.now query.now number }
+/// Whether a query finds a number: that of an item that it judges, and which satisfies it. Of any
+/// other number no question is asked.
+fn is_found<L: Ledger>(
+    told: &Told<'_>,
+    query: &Query<Number>,
+    number: Number,
+    probes: &mut Steps<L>,
+) -> bool
+    ensures found { result ≡ is_found_told told.now query.now number }
+    ensures probes { probes.new ≤ probes.old
+        + (if is_item told.now.linked.now.state number then terms query.now else 0) }
 {
-    is_judged_item(told.linked.kept(), number) && satisfies_told(told, query, number)
+    is_judged_item(told.linked.kept(), number) && satisfies_told(told, query, number, probes)
 }
 
 /// The line of an item that a query finds: its letter and its path.

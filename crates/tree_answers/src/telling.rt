@@ -1,6 +1,6 @@
 //! Which terms items have by what mounts keep, and by what these were told for a query besides.
-ghost use Rattle.std.specs.Prelude.{◌≡◌, ◌<◌, drop, length};
-ghost use Rattle.hac_model.specs.Query.Queries.{query_meaning};
+ghost use Rattle.std.specs.Prelude.{◌≡◌, ◌<◌, ◌≤◌, ◌+◌, drop, length};
+ghost use Rattle.hac_model.specs.Query.Queries.{query_meaning, terms};
 ghost use Rattle.hac_model.specs.Query.Terms.{is_same_term};
 ghost use Rattle.hac_model.specs.Tree.Links.{column, links, provide};
 ghost use Rattle.tree_answers.specs.Asked.{atom_told, first_tells, is_document_told, tells};
@@ -10,8 +10,10 @@ use crate::asking::Question;
 use crate::finding::Sight;
 use crate::lookups::{is_document, parent_of};
 use hac_model::{Number, Query, Seq, Term};
+use hac_outside::Steps;
 use kept_links::LinkedState;
 use query_eval::{Atoms, judge};
+use std::sync::ledger::Ledger;
 
 /// A state with its links, and what its mounts were told besides what they keep.
 #[derive(Clone, Copy)]
@@ -28,8 +30,8 @@ impl<'a> Atoms for Told<'a> {
     ghost atoms = { λ told.
         atom_told told.linked.now.state told.questions.now told.documents.now };
 
-    fn has(&self, term: &Term, item: Number) -> bool {
-        self.linked.has(term, item) || is_document_told(self, term, item)
+    fn has<L: Ledger>(&self, term: &Term, item: Number, probes: &mut Steps<L>) -> bool {
+        self.linked.has(term, item, probes) || is_document_told(self, term, item)
     }
 }
 
@@ -123,14 +125,20 @@ fn is_same_term(one: &Term, other: &Term) -> bool
 }
 
 /// Whether an item satisfies a query.
-pub fn satisfies_told(told: &Told<'_>, query: &Query<Number>, item: Number) -> bool
-    ensures { result ≡ query_meaning
+pub fn satisfies_told<L: Ledger>(
+    told: &Told<'_>,
+    query: &Query<Number>,
+    item: Number,
+    probes: &mut Steps<L>,
+) -> bool
+    ensures satisfies { result ≡ query_meaning
         (atom_told told.now.linked.now.state told.now.questions.now told.now.documents.now)
         (provide told.now.linked.now.state (column (links told.now.linked.now.state) item))
         query.now item }
+    ensures probes { probes.new ≤ probes.old + terms query.now }
 {
     let sight = Sight {
         linked: told.linked,
     };
-    judge(query, told, &sight, item)
+    judge(query, told, &sight, item, probes)
 }

@@ -6,21 +6,26 @@ use Rattle.reeval.specs.Judging.{verdict_of}
 use Rattle.reeval.specs.Settled.{IsPlanned}
 use Rattle.reeval.specs.Told.{news_on, told}
 use Rattle.kept_links.specs.Tasks.{IsWayFrom}
+use Rattle.kept_links.proofs.CostLemmas.{planned-cost}
 use Rattle.kept_links.proofs.TaskLemmas.{way-found}
 use Rattle.kept_links.proofs.news.news_from.Goals as goal
 
 pub task_from-requires-clause-way : goal.task_from-requires-clause-way
-task_from-requires-clause-way c =
+task_from-requires-clause-way g c =
     let s = c.args.coming.now.kept.now.state in
     way-found s c.args.coming.now.event.now c.know_valid.ensures c.requires.coming.accepted c.in_ok-way.way c.args.first c.requires.begins
     (subst (λ (next : State). IsWayFrom s next c.args.first c.in_ok-way.way) (ap (λ (events : List Event). apply_all s events) c.requires.coming.ready) c.in_ok-way.ensures)
 
-pub returns : goal.returns
-returns c =
+pub returns-clause-news : goal.returns-clause-news
+returns-clause-news g c =
     let s = c.args.coming.now.kept.now.state in
     record {
       leads = λ item dir. subst (λ (t : State). told (news_on item c.in_ok-delta.delta.items) (verdict_of s item) dir ≡ verdict_of t item dir) c.new-outlook.ensures
-          (c.in_ok-delta.ensures refl (subst (λ (t : State). IsPlanned s t c.in_ok-task.task) (sym c.new-outlook.ensures) c.in_ok-task.ensures.planned) item dir);
+          (c.in_ok-delta.ensures.news refl (subst (λ (t : State). IsPlanned s t c.in_ok-task.task) (sym c.new-outlook.ensures) c.in_ok-task.ensures.planned) item dir);
       way = way-found s c.args.coming.now.event.now c.know_valid.ensures c.requires.coming.accepted c.in_ok-way.way c.args.first c.requires.begins
           (subst (λ (next : State). IsWayFrom s next c.args.first c.in_ok-way.way) (ap (λ (events : List Event). apply_all s events) c.requires.coming.ready) c.in_ok-way.ensures);
     }
+
+pub returns-clause-probes : goal.returns-clause-probes
+returns-clause-probes g c =
+    planned-cost c.args.coming.now.kept.now.state c.new-outlook.result c.args.coming.now.event.now c.in_ok-task.task c.args.probes.now c.plan.new.probes c.new-outlook.ensures c.in_ok-task.ensures (c.plan.ensures.probes refl)

@@ -6,8 +6,8 @@ use Rattle.kept_links.specs.Kept.{is_still}
 use Rattle.kept_links.proofs.TaskLemmas.{still-leads, still-never, way-still}
 use Rattle.kept_links.proofs.news.news_of.Goals as goal
 
-pub returns-then-is_still : goal.returns-then-is_still
-returns-then-is_still c =
+pub returns-then-is_still-clause-news : goal.returns-then-is_still-clause-news
+returns-then-is_still-clause-news g c =
     let s = c.args.coming.now.kept.now.state in
     let e = c.args.coming.now.event.now in
     let way = c.args.coming.now.way.now in

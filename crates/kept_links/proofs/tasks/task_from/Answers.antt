@@ -1,4 +1,5 @@
-use Rattle.std.proofs.Common.{subst, ◌∙◌}
+use Rattle.std.proofs.Common.{Bool, subst, ◌∙◌}
+use Rattle.hac_model.specs.Tree.Events.{apply}
 use Rattle.hac_model.specs.declared.states.State.{State}
 use Rattle.kept_links.specs.Tasks.{AreAlong}
 use Rattle.kept_links.proofs.TaskLemmas.{task-from}
@@ -10,4 +11,5 @@ returns c =
     (record { touched = c.in_ok-touched.touched; everywhere = c.in_ok-from_slice.field-0; others = c.in_ok-others.others; along = c.in_ok-along.along })
     c.args.first c.args.way.now c.in_ok-touched.ensures c.requires.way (c.in_ok-from_slice.ensures.items ∙ c.as_slice.ensures.value)
     c.requires.begins c.in_ok-others.ensures
-    (subst (λ (next : State). AreAlong next c.args.first c.in_ok-along.along.items) c.requires.next c.in_ok-along.ensures)
+    (subst (λ (ties : Bool). AreAlong (apply c.args.kept.now.state c.args.event.now) c.args.first ties c.in_ok-along.along.items) c.is_tie.ensures
+    (subst (λ (next : State). AreAlong next c.args.first c.is_tie.result c.in_ok-along.along.items) c.requires.next c.in_ok-along.ensures))
