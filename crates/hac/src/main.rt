@@ -2,31 +2,40 @@
 //! files to the run, and ends with the number of the run's status.
 #![tactic(auto)]
 
+ghost use Rattle.std.specs.Prelude.{◌≡◌, ◌<◌};
+
 mod streams;
 
 use hac_disk::FileDisk;
-use hac_outside::{StdSink, StdSource};
+use hac_outside::{StdSink, StdSource, Steps};
 use hac_top::{Status, run};
 use sem_mounts::CatalogueSpaces;
 use std::env;
 use std::io::{self, ErrorKind};
+use std::marker::Brand;
 use std::process::ExitCode;
 use std::rt::Env;
+use std::sync::ledger::{Blank, Ledger};
 use streams::StandIns;
 
 fn main(rt: HostRuntime) -> ExitCode {
     // Before anything else is opened: a store must not get the number of a closed standard stream.
     let _stand_ins = StandIns::open(&rt);
-    let status = run_program(&rt);
+    let status = run_program::<Brand>(&rt, Blank::new(1));
     tell_fault(&rt, status);
     ExitCode::from(status.number())
 }
 
-fn run_program(rt: &HostRuntime) -> Status {
+fn run_program<L: Ledger>(rt: &HostRuntime, blank: Blank) -> Status
+    requires name { blank.name ≡ L.name }
+    requires parts { blank.parts ≡ L.parts }
+    requires some { 0 < blank.parts }
+{
     let mut input = StdSource::new(rt.stdin());
     let mut output = StdSink::new(rt.stdout());
     let mut disk = FileDisk::new(rt);
     let mut spaces = CatalogueSpaces::new(rt);
+    let mut probes: Steps<L> = Steps::new(blank);
     match program_words(rt) {
         Ok(words) => run(
             rt.alloc(),
@@ -35,6 +44,7 @@ fn run_program(rt: &HostRuntime) -> Status {
             &mut output,
             &mut disk,
             &mut spaces,
+            &mut probes,
         ),
         Err(error) if error.kind() == ErrorKind::OutOfMemory => Status::Memory,
         // Words that are no text are answered as no words are: by the usage.
@@ -45,6 +55,7 @@ fn run_program(rt: &HostRuntime) -> Status {
             &mut output,
             &mut disk,
             &mut spaces,
+            &mut probes,
         ),
     }
 }

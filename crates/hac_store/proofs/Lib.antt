@@ -1,9 +1,11 @@
 pub mod AreaLemmas
 pub mod BeginLemmas
 pub mod CheckpointLemmas
+pub mod CostLemmas
 pub mod CreateLemmas
 pub mod HeldLemmas
 pub mod LiveLemmas
+pub mod LoadLemmas
 pub mod LogLemmas
 pub mod NewLemmas
 pub mod PutLemmas

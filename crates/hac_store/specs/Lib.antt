@@ -3,6 +3,7 @@ pub mod Creating
 pub mod Faults
 pub mod Held
 pub mod Laws
+pub mod Loading
 pub mod Reading
 pub mod Stores
 pub mod Storing

@@ -8,6 +8,7 @@ ghost use Rattle.hac_model.specs.Tree.{root_alone};
 ghost use Rattle.hac_outside.specs.Causes.{ReportsFault};
 ghost use Rattle.hac_store.specs.Faults.{is_disk_fault};
 ghost use Rattle.hac_store.specs.Held.{after_snapshot, area, first_version, is_state};
+ghost use Rattle.hac_store.specs.Loading.{loading_area, replaying};
 ghost use Rattle.hac_store.specs.Reading.{BeginsArea, JudgesState};
 
 use crate::fault::StoreFault;
@@ -29,6 +30,8 @@ pub(crate) struct Begun {
 /// goes on from the root alone, with that record, whose kind tells the version.
 pub(crate) fn begin<D: Disk>(alloc: Global, disk: &mut D, start: u64) -> Result<Begun, StoreFault>
     ensures area { IfSome (D.seen disk.old) (λ file. BeginsArea result file (area start file)) }
+    ensures loads { IfSome (D.seen disk.old) (λ file. IfOk result
+        (λ begun. loading_area start file ≡ replaying begun.replay begun.at file)) }
     ensures ahead { IfOk result (λ begun. start ≤ begun.at) }
     ensures quiet { IsQuiet D.seen D.image D.moment D.image_since disk.old disk.new }
     ensures kind { (result ≡ Err StoreFault.AlreadyStore → ⊥) × (result ≡ Err StoreFault.Full → ⊥) }
@@ -57,6 +60,8 @@ fn begin_behind(alloc: Global, start: u64, payload: &[u8], next: u64) -> Result<
     requires { next ≡ start + 5 + length payload.now }
     ensures area { (file : List ℕ) → found_at start file ≡ Whole payload.now next →
         BeginsArea result file (area start file) }
+    ensures loads { (file : List ℕ) → found_at start file ≡ Whole payload.now next → IfOk result
+        (λ begun. loading_area start file ≡ replaying begun.replay begun.at file) }
     ensures ahead { IfOk result (λ begun. start ≤ begun.at) }
     ensures kind { (result ≡ Err StoreFault.AlreadyStore → ⊥) × (result ≡ Err StoreFault.Full → ⊥)
         × (result ≡ Err StoreFault.Disk → ⊥) }

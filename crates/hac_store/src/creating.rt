@@ -1,5 +1,5 @@
 //! Making a new store: all of it is written behind a closed gate, which is then opened.
-ghost use Rattle.std.specs.Prelude.{◌≡◌, ◌⊎◌, Err, IfOk, IfSome, IsErr, IsOk, OnOk, ℕ};
+ghost use Rattle.std.specs.Prelude.{◌≡◌, ◌⊎◌, ◌≤◌, ◌+◌, Err, IfOk, IfSome, IsErr, IsOk, OnOk, ℕ};
 ghost use Rattle.hac_outside.specs.Causes.{HasCause, ReportsFault};
 ghost use Rattle.hac_disk.specs.Images.{IsQuiet, LeavesOnly};
 ghost use Rattle.hac_disk.specs.Contents.{HasByteAt, IsSettled};
@@ -8,6 +8,7 @@ ghost use Rattle.hac_model.specs.Run.Play.{new_setting};
 ghost use Rattle.hac_store.specs.Creating.{Becomes, IsReady, HoldsNone, none_in};
 ghost use Rattle.hac_store.specs.Faults.{is_disk_fault};
 ghost use Rattle.hac_store.specs.Held.{held};
+ghost use Rattle.hac_store.specs.Loading.{loading};
 ghost use Rattle.hac_store.specs.Stores.{Bears, IsNewOrNone, Stands, first_store};
 
 use crate::fault::StoreFault;
@@ -18,8 +19,9 @@ use hac_core::Machine;
 use hac_disk::{Disk, write_stable};
 use hac_journal::{CLOSED, OPEN};
 use hac_model::Version;
-use hac_outside::Failed;
+use hac_outside::{Failed, Steps};
 use std::alloc::Global;
+use std::sync::ledger::Ledger;
 
 // A closed gate, the format's name, slot A with the first generation and the place 64, slot B with
 // nothing, 21 bytes that tell nothing, and an empty log.
@@ -28,7 +30,11 @@ const NEW: [u8; 65] =
 
 impl Store {
     /// Makes a new store on a disk that holds none.
-    pub fn create<D: Disk>(alloc: Global, disk: &mut D) -> Result<Store, StoreFault>
+    pub fn create<D: Disk, L: Ledger>(
+        alloc: Global,
+        disk: &mut D,
+        probes: &mut Steps<L>,
+    ) -> Result<Store, StoreFault>
         ensures made { IfOk result (λ store. store ≡ first_store) }
         ensures new { IfSome (D.seen disk.old) (λ file. OnOk result (IsErr (held file))) }
         ensures already { IfSome (D.seen disk.old)
@@ -48,9 +54,11 @@ impl Store {
         ensures attached { D.attached disk.new ≡ D.attached disk.old }
         ensures faults { ReportsFault (is_disk_fault result) (D.faults disk.old)
             (D.faults disk.new) }
+        ensures probes { IfSome (D.seen disk.old)
+            (λ file. probes.new ≤ probes.old + loading file) }
     {
         disk.sync()?;
-        none(read_store(alloc, disk).err())?;
+        none(read_store(alloc, disk, probes).err())?;
         new_store(alloc, disk)
     }
 }

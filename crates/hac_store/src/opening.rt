@@ -5,10 +5,12 @@ ghost use Rattle.hac_outside.specs.Causes.{ReportsFault};
 ghost use Rattle.hac_disk.specs.Images.{IsQuiet};
 ghost use Rattle.hac_disk.specs.Contents.{HasByteAt, IsSettled};
 ghost use Rattle.hac_model.specs.Payload.Payloads.{spelled};
+ghost use Rattle.hac_model.specs.Tree.Costs.{opening, weight};
 ghost use Rattle.hac_model.specs.Tree.Sessions.{is_stored};
 ghost use Rattle.hac_model.specs.Tree.Valid.{IsValid};
 ghost use Rattle.hac_store.specs.Faults.{is_disk_fault};
 ghost use Rattle.hac_store.specs.Held.{held, after_payload, log};
+ghost use Rattle.hac_store.specs.Loading.{judging, loading, replaying};
 ghost use Rattle.hac_store.specs.Reading.{Judges, ReadsLog};
 ghost use Rattle.hac_store.specs.Stores.{Bears, Opens, Stands};
 
@@ -21,11 +23,17 @@ use hac_core::Replay;
 use hac_disk::Disk;
 use hac_journal::{LogReader, Next};
 use hac_model::Event;
+use hac_outside::Steps;
 use std::alloc::Global;
+use std::sync::ledger::Ledger;
 
 impl Store {
     /// Opens the store on a disk: syncs, reads it and applies its events. It writes nothing.
-    pub fn load<D: Disk>(alloc: Global, disk: &mut D) -> Result<Store, StoreFault>
+    pub fn load<D: Disk, L: Ledger>(
+        alloc: Global,
+        disk: &mut D,
+        probes: &mut Steps<L>,
+    ) -> Result<Store, StoreFault>
         ensures held { IfSome (D.seen disk.old) (λ file. Opens result (held file)) }
         ensures sound { IfOk result (λ store. (store.broken ≡ false) ×
             IsValid store.setting.state) }
@@ -39,14 +47,20 @@ impl Store {
         ensures attached { D.attached disk.new ≡ D.attached disk.old }
         ensures faults { ReportsFault (is_disk_fault result) (D.faults disk.old)
             (D.faults disk.new) }
+        ensures probes { IfSome (D.seen disk.old)
+            (λ file. probes.new ≤ probes.old + loading file) }
     {
         disk.sync()?;
-        read_store(alloc, disk)
+        read_store(alloc, disk, probes)
     }
 }
 
 /// Reads the store on a disk. It writes nothing.
-pub(crate) fn read_store<D: Disk>(alloc: Global, disk: &mut D) -> Result<Store, StoreFault>
+pub(crate) fn read_store<D: Disk, L: Ledger>(
+    alloc: Global,
+    disk: &mut D,
+    probes: &mut Steps<L>,
+) -> Result<Store, StoreFault>
     ensures held { IfSome (D.seen disk.old) (λ file. Opens result (held file)) }
     ensures sound { IfOk result (λ store. (store.broken ≡ false) × IsValid store.setting.state) }
     ensures place { IfOk result (λ store. Bears (D.seen disk.new) store) }
@@ -54,13 +68,14 @@ pub(crate) fn read_store<D: Disk>(alloc: Global, disk: &mut D) -> Result<Store, 
     ensures kind { (result ≡ Err StoreFault.AlreadyStore → ⊥) × (result ≡ Err StoreFault.Full → ⊥) }
     ensures attached { D.attached disk.new ≡ D.attached disk.old }
     ensures faults { ReportsFault (is_disk_fault result) (D.faults disk.old) (D.faults disk.new) }
+    ensures probes { IfSome (D.seen disk.old) (λ file. probes.new ≤ probes.old + loading file) }
 {
     let root = roots(disk)?;
     let Begun { mut replay, at } = begin(alloc, disk, root.start)?;
-    match read_log(alloc, disk, &mut replay, at) {
+    match read_log(alloc, disk, &mut replay, at, probes) {
         Ok(end) => Ok(Store {
             alloc,
-            machine: replay.machine()?,
+            machine: replay.machine(probes)?,
             slot: root.slot,
             start: root.start,
             end,
@@ -75,11 +90,12 @@ pub(crate) fn read_store<D: Disk>(alloc: Global, disk: &mut D) -> Result<Store, 
 }
 
 // Applies the events of a log, and gives the place of the closed gate behind it.
-fn read_log<D: Disk>(
+fn read_log<D: Disk, L: Ledger>(
     alloc: Global,
     disk: &mut D,
     replay: &mut Replay,
     start: u64,
+    probes: &mut Steps<L>,
 ) -> Result<u64, StoreFault>
     ensures log { IfSome (D.seen disk.old) (λ file. ReadsLog result replay.new file
         (log replay.old start file)) }
@@ -89,13 +105,19 @@ fn read_log<D: Disk>(
     ensures kind { (result ≡ Err StoreFault.AlreadyStore → ⊥) × (result ≡ Err StoreFault.Full → ⊥) }
     ensures attached { D.attached disk.new ≡ D.attached disk.old }
     ensures faults { ReportsFault (is_disk_fault result) (D.faults disk.old) (D.faults disk.new) }
+    ensures probes { IfSome (D.seen disk.old) (λ file. probes.new ≤ probes.old
+        + replaying replay.old start file) }
+
+    // What is left is enough to find the links of the state to which the log led.
+    ensures opens { OnOk result (IfSome (D.seen disk.old) (λ file. probes.new
+        + opening replay.new ≤ probes.old + replaying replay.old start file)) }
 {
     let mut reader = LogReader::new(alloc);
     let mut at = start;
     loop {
         match reader.next(disk, at)? {
             Next::Entry { payload, next } => {
-                apply_payload(alloc, replay, at, &payload)?;
+                apply_payload(alloc, replay, at, &payload, probes)?;
                 at = next;
             }
             Next::End => return Ok(at),
@@ -106,18 +128,21 @@ fn read_log<D: Disk>(
 
 // Applies what the payload of a record says, given the place of its gate.
 #[tactic(auto, using(crate::proofs::StoredLemmas::spelled_kept))]
-fn apply_payload(
+fn apply_payload<L: Ledger>(
     alloc: Global,
     replay: &mut Replay,
     at: u64,
     payload: &[u8],
+    probes: &mut Steps<L>,
 ) -> Result<(), StoreFault>
     requires { at + 5 + length payload.now < 2 ^ 64 }
-    ensures { Judges result replay.new (after_payload replay.old at
+    ensures judges { Judges result replay.new (after_payload replay.old at
         (spelled replay.old.version payload.now)) }
+    ensures probes { probes.new ≤ probes.old
+        + judging replay.old (spelled replay.old.version payload.now) }
 {
     match read_event(alloc, replay.version(), payload) {
-        Ok(event) => accept(replay, at, event),
+        Ok(event) => accept(replay, at, event, probes),
         Err(CodecFault::Bad { at: offset }) => Err(StoreFault::NotStore {
             at: at + 5 + offset,
         }),
@@ -126,12 +151,18 @@ fn apply_payload(
 }
 
 // Applies the event of a record, if the state accepts it.
-fn accept(replay: &mut Replay, at: u64, event: Event) -> Result<(), StoreFault>
+fn accept<L: Ledger>(
+    replay: &mut Replay,
+    at: u64,
+    event: Event,
+    probes: &mut Steps<L>,
+) -> Result<(), StoreFault>
     requires place { at + 5 < 2 ^ 64 }
     requires stored { IsTrue (is_stored event) }
-    ensures { Judges result replay.new (after_payload replay.old at (Ok event)) }
+    ensures judges { Judges result replay.new (after_payload replay.old at (Ok event)) }
+    ensures probes { probes.new ≤ probes.old + weight replay.old }
 {
-    if replay.happen(event)? {
+    if replay.happen(event, probes)? {
         Ok(())
     } else {
         Err(StoreFault::NotStore { at: at + 5 })

@@ -19,11 +19,12 @@ use crate::taking::TakenLine;
 use crate::ticking::tick;
 use hac_disk::Disk;
 use hac_model::{LimitWord, Refusal, Reply, Taken, Text};
-use hac_outside::{Failed, Sink, write_all};
+use hac_outside::{Failed, Sink, Steps, write_all};
 use hac_store::Store;
 use sem_mounts::Spaces;
 use shell_lang::{Piece, print_reply};
 use std::alloc::Global;
+use std::sync::ledger::Ledger;
 
 /// What a run knows between two lines.
 #[derive(Drop)]
@@ -41,12 +42,13 @@ impl Player {
     /// Answers a line of the script, with the bytes that belong to it. What it changes is in the
     /// store before anything of its reply is written, and no step follows before its reply was
     /// written and flushed.
-    pub fn answer<K: Sink, D: Disk, P: Spaces>(
+    pub fn answer<K: Sink, D: Disk, P: Spaces, L: Ledger>(
         &mut self,
         output: &mut K,
         disk: &mut D,
         spaces: &mut P,
         line: TakenLine,
+        probes: &mut Steps<L>,
     ) -> Result<(), Status>
         requires intact { self.old.store.broken ≡ false }
         requires place { Bears (D.seen disk.old) self.old.store }
@@ -58,24 +60,26 @@ impl Player {
     {
         let TakenLine { piece, taken } = line;
         match piece {
-            Piece::Bytes(line) => self.answer_line(output, disk, spaces, line, taken),
+            Piece::Bytes(line) => self.answer_line(output, disk, spaces, line, taken, probes),
             Piece::LongLine => self.tell(
                 output,
                 disk,
                 Reply::Refused(Refusal::Limit(LimitWord::Line)),
+                probes,
             ),
             Piece::Blank | Piece::End => Ok(()),
         }
     }
 
     // Answers a line that spells a command.
-    fn answer_line<K: Sink, D: Disk, P: Spaces>(
+    fn answer_line<K: Sink, D: Disk, P: Spaces, L: Ledger>(
         &mut self,
         output: &mut K,
         disk: &mut D,
         spaces: &mut P,
         line: Text,
         taken: Option<Taken>,
+        probes: &mut Steps<L>,
     ) -> Result<(), Status>
         requires intact { self.old.store.broken ≡ false }
         requires place { Bears (D.seen disk.old) self.old.store }
@@ -85,16 +89,25 @@ impl Player {
             self.old.store self.new.store (K.seen output.old) (K.seen output.new)
             (item_taken line taken ∷ []) self.old.refused self.new.refused result }
     {
-        let reply = store_line(self.alloc, &mut self.store, disk, spaces, line, taken)?;
-        self.tell(output, disk, reply)
+        let reply = store_line(
+            self.alloc,
+            &mut self.store,
+            disk,
+            spaces,
+            line,
+            taken,
+            probes,
+        )?;
+        self.tell(output, disk, reply, probes)
     }
 
     // Gives a reply, and behind it lets the index steps follow that do so by themselves.
-    fn tell<K: Sink, D: Disk>(
+    fn tell<K: Sink, D: Disk, L: Ledger>(
         &mut self,
         output: &mut K,
         disk: &mut D,
         reply: Reply,
+        probes: &mut Steps<L>,
     ) -> Result<(), Status>
         requires intact { self.old.store.broken ≡ false }
         requires place { Bears (D.seen disk.old) self.old.store }
@@ -110,7 +123,7 @@ impl Player {
             (told_turn self.old.tick self.old.store.setting reply ∷ [])) }
     {
         self.write_reply(output, reply)?;
-        tick(&mut self.store, disk, self.tick)
+        tick(&mut self.store, disk, self.tick, probes)
     }
 
     /// Writes a reply, and flushes it.

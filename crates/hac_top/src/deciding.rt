@@ -13,9 +13,11 @@ ghost use Rattle.hac_top.specs.declared.deciding.Decision.TheVariants.{Answer};
 
 use hac_core::{Draft, Machine, Settled};
 use hac_model::{Answers, Deny, Line, Memory, Refusal, Reply, Taken, Text};
+use hac_outside::Steps;
 use sem_mounts::{GatherFault, Spaces, gather};
 use shell_lang::parse_line;
 use std::alloc::Global;
+use std::sync::ledger::Ledger;
 
 /// What is to be done about a line.
 #[derive(Drop)]
@@ -28,52 +30,55 @@ pub enum Decision {
 
 /// What is to be done about a line, given what was taken of the bytes behind it. The spaces are
 /// asked what its command has to know of them.
-pub fn decide<P: Spaces>(
+pub fn decide<P: Spaces, L: Ledger>(
     alloc: Global,
     machine: &Machine,
     spaces: &mut P,
     line: Text,
     taken: Option<Taken>,
+    probes: &mut Steps<L>,
 ) -> Result<Decision, Memory>
     ensures { DecidesItem (P.seen spaces.old) (P.seen spaces.new) machine.now.state
         (item_taken line taken) result }
 {
     match parse_line(alloc, line.as_slice(), taken) {
-        Ok(line) => decide_line(alloc, machine, spaces, line),
+        Ok(line) => decide_line(alloc, machine, spaces, line, probes),
         Err(deny) => refused(deny),
     }
 }
 
 // What is to be done about a line that spells a command.
-fn decide_line<P: Spaces>(
+fn decide_line<P: Spaces, L: Ledger>(
     alloc: Global,
     machine: &Machine,
     spaces: &mut P,
     line: Line,
+    probes: &mut Steps<L>,
 ) -> Result<Decision, Memory>
     requires { IsTrue (is_spelled_line line) }
     ensures { DecidesItem (P.seen spaces.old) (P.seen spaces.new) machine.now.state (Ok line)
         result }
 {
     match machine.check(line) {
-        Ok(draft) => decide_draft(alloc, machine, spaces, draft),
+        Ok(draft) => decide_draft(alloc, machine, spaces, draft, probes),
         Err(deny) => refused(deny),
     }
 }
 
 // What is to be done about a command that the tree doesn't refuse so far: its questions are asked,
 // and the first that gets no answer refuses it.
-fn decide_draft<P: Spaces>(
+fn decide_draft<P: Spaces, L: Ledger>(
     alloc: Global,
     machine: &Machine,
     spaces: &mut P,
     draft: Draft,
+    probes: &mut Steps<L>,
 ) -> Result<Decision, Memory>
     requires { IsDraft machine.now.state draft }
     ensures { DecidesDraft (P.seen spaces.old) (P.seen spaces.new) machine.now.state draft result }
 {
     match gather(alloc, spaces, draft.asks()) {
-        Ok(answers) => decide_answered(machine, draft, answers),
+        Ok(answers) => decide_answered(machine, draft, answers, probes),
         Err(fault) => refused(denial(fault)),
     }
 }
@@ -90,7 +95,12 @@ fn denial(fault: GatherFault) -> Deny
 }
 
 // What is to be done about such a command once its questions are answered.
-fn decide_answered(machine: &Machine, draft: Draft, answers: Answers) -> Result<Decision, Memory>
+fn decide_answered<L: Ledger>(
+    machine: &Machine,
+    draft: Draft,
+    answers: Answers,
+    probes: &mut Steps<L>,
+) -> Result<Decision, Memory>
     requires made { IsDraft machine.now.state draft }
     requires answered { AreAnswersTo draft.asks answers }
     ensures happen { IfOk result (CanHappen machine.now.state) }
@@ -101,7 +111,7 @@ fn decide_answered(machine: &Machine, draft: Draft, answers: Answers) -> Result<
         (λ setting. command_turn (given_spaces spaces) setting (Ok command))) }
 {
     if draft.reads() {
-        return answered(machine.ask(draft, answers));
+        return answered(machine.ask(draft, answers, probes));
     }
     match machine.settle(draft, answers) {
         Ok(settled) => Ok(Decision::Change(settled)),

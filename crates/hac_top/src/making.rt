@@ -13,14 +13,15 @@ use crate::status::Status;
 use hac_core::Machine;
 use hac_disk::Disk;
 use hac_model::{Answers, Command, Deny, Line, Memory, Name, Reply, Seq};
-use hac_outside::Sink;
+use hac_outside::{Sink, Steps};
 use hac_store::Store;
 use script_maker::make_script;
 use sem_mounts::Spaces;
 use std::alloc::Global;
+use std::sync::ledger::Ledger;
 
 /// Plays the script of a number on a store that was opened, and then writes the reply to `counts`.
-pub fn make_store<K: Sink, D: Disk, P: Spaces>(
+pub fn make_store<K: Sink, D: Disk, P: Spaces, L: Ledger>(
     alloc: Global,
     store: Store,
     tick: u64,
@@ -28,6 +29,7 @@ pub fn make_store<K: Sink, D: Disk, P: Spaces>(
     output: &mut K,
     disk: &mut D,
     spaces: &mut P,
+    probes: &mut Steps<L>,
 ) -> Status
     requires intact { store.broken ≡ false }
     requires place { Bears (D.seen disk.old) store }
@@ -41,19 +43,20 @@ pub fn make_store<K: Sink, D: Disk, P: Spaces>(
         tick,
         refused: false,
     };
-    let played = play_made(alloc, &mut player, number, disk, spaces);
-    let told = tell_counts(alloc, &mut player, output, played);
+    let played = play_made(alloc, &mut player, number, disk, spaces, probes);
+    let told = tell_counts(alloc, &mut player, output, played, probes);
     drop(player);
     end_status(told)
 }
 
 // Plays the script of a number to its end. None of its replies is kept.
-fn play_made<D: Disk, P: Spaces>(
+fn play_made<D: Disk, P: Spaces, L: Ledger>(
     alloc: Global,
     player: &mut Player,
     number: u64,
     disk: &mut D,
     spaces: &mut P,
+    probes: &mut Steps<L>,
 ) -> Result<bool, Status>
     requires begun { player.old.refused ≡ false }
     requires intact { player.old.store.broken ≡ false }
@@ -64,32 +67,37 @@ fn play_made<D: Disk, P: Spaces>(
 {
     let mut source = ScriptSource::new(make_script(alloc, number)?);
     let mut sink = Unwritten;
-    play_script(alloc, player, &mut source, &mut sink, disk, spaces)
+    play_script(alloc, player, &mut source, &mut sink, disk, spaces, probes)
 }
 
 // Writes the reply to `counts`, where the script was played to its end.
-fn tell_counts<K: Sink>(
+fn tell_counts<K: Sink, L: Ledger>(
     alloc: Global,
     player: &mut Player,
     output: &mut K,
     played: Result<bool, Status>,
+    probes: &mut Steps<L>,
 ) -> Result<bool, Status>
     ensures { TellsLeft played result player.old.store.setting.state (K.seen output.old)
         (K.seen output.new) }
 {
     let refused = played?;
-    let reply = counts_reply(alloc, player.store.machine())?;
+    let reply = counts_reply(alloc, player.store.machine(), probes)?;
     player.write_reply(output, reply)?;
     Ok(refused)
 }
 
 // The reply to `counts`. No state refuses it.
-fn counts_reply(alloc: Global, machine: &Machine) -> Result<Reply, Memory>
+fn counts_reply<L: Ledger>(
+    alloc: Global,
+    machine: &Machine,
+    probes: &mut Steps<L>,
+) -> Result<Reply, Memory>
     ensures { IfOk result (λ reply. reply ≡ counts_reply machine.now.state) }
 {
     let _dirty = machine.dirty();
     match machine.check(counts_line(alloc)?) {
-        Ok(draft) => match machine.ask(draft, no_answers(alloc)) {
+        Ok(draft) => match machine.ask(draft, no_answers(alloc), probes) {
             Ok(reply) => Ok(reply),
             Err(deny) => Err(only_memory(deny)),
         },

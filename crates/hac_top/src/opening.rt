@@ -16,14 +16,17 @@ ghost use Rattle.command_line.specs.Words.{asked_of};
 use crate::status::{Status, store_status};
 use command_line::Options;
 use hac_disk::Disk;
+use hac_outside::Steps;
 use hac_store::{Store, StoreFault};
 use std::alloc::Global;
+use std::sync::ledger::Ledger;
 
 /// Attaches the file of a store, and opens the store that it holds, or makes a new one.
-pub fn open_store<D: Disk>(
+pub fn open_store<D: Disk, L: Ledger>(
     alloc: Global,
     options: &Options<'_>,
     disk: &mut D,
+    probes: &mut Steps<L>,
 ) -> Result<Store, Status>
     ensures opened { IfSome (D.seen disk.old) (λ file. IsOpened result
         (opening_outcome options.now.fresh (held file))) }
@@ -55,9 +58,9 @@ pub fn open_store<D: Disk>(
         return Err(Status::DiskFault);
     }
     if options.fresh {
-        opening_result(Store::create(alloc, disk))
+        opening_result(Store::create(alloc, disk, probes))
     } else {
-        opening_result(Store::load(alloc, disk))
+        opening_result(Store::load(alloc, disk, probes))
     }
 }
 

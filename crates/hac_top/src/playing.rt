@@ -8,14 +8,15 @@ use crate::answering::Player;
 use crate::status::Status;
 use crate::taking::take_line;
 use hac_disk::Disk;
-use hac_outside::{Sink, Source};
+use hac_outside::{Sink, Source, Steps};
 use hac_store::Store;
 use sem_mounts::Spaces;
 use shell_lang::Reader;
 use std::alloc::Global;
+use std::sync::ledger::Ledger;
 
 /// Plays the script on a store that was opened.
-pub fn play_store<S: Source, K: Sink, D: Disk, P: Spaces>(
+pub fn play_store<S: Source, K: Sink, D: Disk, P: Spaces, L: Ledger>(
     alloc: Global,
     store: Store,
     tick: u64,
@@ -23,6 +24,7 @@ pub fn play_store<S: Source, K: Sink, D: Disk, P: Spaces>(
     output: &mut K,
     disk: &mut D,
     spaces: &mut P,
+    probes: &mut Steps<L>,
 ) -> Status
     requires source { (S.seen input.old).ended ≡ false }
     requires intact { store.broken ≡ false }
@@ -38,19 +40,20 @@ pub fn play_store<S: Source, K: Sink, D: Disk, P: Spaces>(
         tick,
         refused: false,
     };
-    let played = play_script(alloc, &mut player, input, output, disk, spaces);
+    let played = play_script(alloc, &mut player, input, output, disk, spaces, probes);
     drop(player);
     end_status(played)
 }
 
 /// Plays the script to its end, and says whether some command was refused.
-pub fn play_script<S: Source, K: Sink, D: Disk, P: Spaces>(
+pub fn play_script<S: Source, K: Sink, D: Disk, P: Spaces, L: Ledger>(
     alloc: Global,
     player: &mut Player,
     input: &mut S,
     output: &mut K,
     disk: &mut D,
     spaces: &mut P,
+    probes: &mut Steps<L>,
 ) -> Result<bool, Status>
     requires source { (S.seen input.old).ended ≡ false }
     requires begun { player.old.refused ≡ false }
@@ -64,7 +67,7 @@ pub fn play_script<S: Source, K: Sink, D: Disk, P: Spaces>(
     let mut reader = Reader::new(alloc)?;
     'lines: loop {
         match take_line(&mut reader, input)? {
-            Some(line) => player.answer(output, disk, spaces, line)?,
+            Some(line) => player.answer(output, disk, spaces, line, probes)?,
             None => return Ok(player.refused),
         }
     }

@@ -28,9 +28,10 @@ use crate::playing::play_store;
 use crate::status::Status;
 use command_line::{Options, WordsFault, read_words};
 use hac_disk::Disk;
-use hac_outside::{Sink, Source};
+use hac_outside::{Sink, Source, Steps};
 use sem_mounts::Spaces;
 use std::alloc::Global;
+use std::sync::ledger::Ledger;
 
 /// Attaches the spaces that the words name, opens the store, plays the script that the source
 /// gives, and writes the reply to each command to the sink.
@@ -46,13 +47,16 @@ use std::alloc::Global;
 ///
 /// With `--make` the script is one that is drawn from NUMBER. Nothing of the source is taken then,
 /// and of the replies only that to `counts` is written, which is asked behind the script.
-pub fn run<S: Source, K: Sink, D: Disk, P: Spaces>(
+///
+/// `probes` counts how often a term is asked of an item.
+pub fn run<S: Source, K: Sink, D: Disk, P: Spaces, L: Ledger>(
     alloc: Global,
     words: &[String],
     input: &mut S,
     output: &mut K,
     disk: &mut D,
     spaces: &mut P,
+    probes: &mut Steps<L>,
 ) -> Status
     requires unended { (S.seen input.old).ended ≡ false }
     requires unattached { (P.seen spaces.old).attached ≡ [] }
@@ -129,19 +133,20 @@ pub fn run<S: Source, K: Sink, D: Disk, P: Spaces>(
         Err(WordsFault::Memory) => return Status::Memory,
     };
     match attach_spaces(spaces, &options.spaces) {
-        Ok(()) => run_store(alloc, &options, input, output, disk, spaces),
+        Ok(()) => run_store(alloc, &options, input, output, disk, spaces, probes),
         Err(status) => status,
     }
 }
 
 // Opens the store, and plays the script on it: that of the source, or one that is drawn.
-fn run_store<S: Source, K: Sink, D: Disk, P: Spaces>(
+fn run_store<S: Source, K: Sink, D: Disk, P: Spaces, L: Ledger>(
     alloc: Global,
     options: &Options<'_>,
     input: &mut S,
     output: &mut K,
     disk: &mut D,
     spaces: &mut P,
+    probes: &mut Steps<L>,
 ) -> Status
     requires { (S.seen input.old).ended ≡ false }
     ensures own { IsStoreStatus result }
@@ -182,10 +187,11 @@ fn run_store<S: Source, K: Sink, D: Disk, P: Spaces>(
     ensures disk_faults { ReportsFault (is_disk_fault result) (D.faults disk.old)
         (D.faults disk.new) }
 {
-    match open_store(alloc, options, disk) {
+    let tick = options.tick;
+    match open_store(alloc, options, disk, probes) {
         Ok(store) => match options.make {
-            None => play_store(alloc, store, options.tick, input, output, disk, spaces),
-            Some(number) => make_store(alloc, store, options.tick, number, output, disk, spaces),
+            None => play_store(alloc, store, tick, input, output, disk, spaces, probes),
+            Some(number) => make_store(alloc, store, tick, number, output, disk, spaces, probes),
         },
         Err(status) => status,
     }

@@ -13,9 +13,11 @@ use crate::status::{Status, store_status};
 use hac_core::Settled;
 use hac_disk::Disk;
 use hac_model::{LimitWord, Refusal, Reply, Seq, Taken, Text};
+use hac_outside::Steps;
 use hac_store::{Store, StoreFault};
 use sem_mounts::Spaces;
 use std::alloc::Global;
+use std::sync::ledger::Ledger;
 
 // The most index steps that one append takes.
 const BATCH: u64 = 4_096;
@@ -25,23 +27,26 @@ pub const STEP_BYTES: u64 = 2;
 
 /// Decides what a line asks for, given what was taken of the bytes behind it, and stores what it
 /// changes. Gives the reply.
-pub fn store_line<D: Disk, P: Spaces>(
+pub fn store_line<D: Disk, P: Spaces, L: Ledger>(
     alloc: Global,
     store: &mut Store,
     disk: &mut D,
     spaces: &mut P,
     line: Text,
     taken: Option<Taken>,
+    probes: &mut Steps<L>,
 ) -> Result<Reply, Status>
     requires intact { store.old.broken ≡ false }
     requires place { Bears (D.seen disk.old) store.old }
     ensures { StoresItem D.seen D.image D.moment D.image_since D.attached D.faults disk.old disk.new
         (P.seen spaces.old) (P.seen spaces.new) store.old store.new (item_taken line taken) result }
 {
-    let decision = decide(alloc, store.machine(), spaces, line, taken)?;
+    let decision = decide(alloc, store.machine(), spaces, line, taken, probes)?;
     match decision {
         Decision::Answer(reply) => Ok(reply),
-        Decision::Change(settled) => storing_reply(alloc, store_events(store, disk, settled)),
+        Decision::Change(settled) => {
+            storing_reply(alloc, store_events(store, disk, settled, probes))
+        }
     }
 }
 
@@ -58,10 +63,11 @@ fn storing_reply(alloc: Global, stored: Result<(), StoreFault>) -> Result<Reply,
 
 // Applies the events of a command, once those are stored that are; or begins a new area. `Full`
 // comes before any write.
-fn store_events<D: Disk>(
+fn store_events<D: Disk, L: Ledger>(
     store: &mut Store,
     disk: &mut D,
     settled: Settled,
+    probes: &mut Steps<L>,
 ) -> Result<(), StoreFault>
     requires intact { store.old.broken ≡ false }
     requires place { Bears (D.seen disk.old) store.old }
@@ -70,16 +76,21 @@ fn store_events<D: Disk>(
         store.old store.new (settled_turn store.old.setting settled) (storing_reply result) }
 {
     match settled {
-        Settled::Change(change) => store.command(disk, change),
-        Settled::Steps(count) => store_steps(store, disk, count),
-        Settled::Session(event) => Ok(store.stand(event)?),
+        Settled::Change(change) => store.command(disk, change, probes),
+        Settled::Steps(count) => store_steps(store, disk, count, probes),
+        Settled::Session(event) => Ok(store.stand(event, probes)?),
         Settled::Checkpoint => store.checkpoint(disk),
     }
 }
 
 /// Stores index steps and applies them, some thousands by one append. `Full` comes before any
 /// write.
-pub fn store_steps<D: Disk>(store: &mut Store, disk: &mut D, count: u64) -> Result<(), StoreFault>
+pub fn store_steps<D: Disk, L: Ledger>(
+    store: &mut Store,
+    disk: &mut D,
+    count: u64,
+    probes: &mut Steps<L>,
+) -> Result<(), StoreFault>
     requires intact { store.old.broken ≡ false }
     requires place { Bears (D.seen disk.old) store.old }
     requires happen { AllHappen store.old.setting.state (replicate count event.Step) }
@@ -93,7 +104,7 @@ pub fn store_steps<D: Disk>(store: &mut Store, disk: &mut D, count: u64) -> Resu
     let mut left = count;
     while left > 0 {
         let batch = left.min(BATCH);
-        store.steps(disk, batch)?;
+        store.steps(disk, batch, probes)?;
         left -= batch;
     }
     Ok(())

@@ -9,18 +9,25 @@ ghost use Rattle.hac_top.specs.Storing.{StoresSteps};
 use crate::status::{Status, store_status};
 use crate::storing::{STEP_BYTES, store_steps};
 use hac_disk::Disk;
+use hac_outside::Steps;
 use hac_store::Store;
+use std::sync::ledger::Ledger;
 
 /// Stores the index steps that follow a command by themselves, and then applies them: at most
 /// `most`, while a file is dirty and the store has room for the record of one more.
-pub fn tick<D: Disk>(store: &mut Store, disk: &mut D, most: u64) -> Result<(), Status>
+pub fn tick<D: Disk, L: Ledger>(
+    store: &mut Store,
+    disk: &mut D,
+    most: u64,
+    probes: &mut Steps<L>,
+) -> Result<(), Status>
     requires intact { store.old.broken ≡ false }
     requires place { Bears (D.seen disk.old) store.old }
     ensures { StoresSteps D.seen D.image D.moment D.image_since D.attached D.faults disk.old
         disk.new store.old store.new (steps_behind most store.old.setting) result }
 {
     let count = steps_due(store, most);
-    match store_steps(store, disk, count) {
+    match store_steps(store, disk, count, probes) {
         Ok(()) => Ok(()),
         Err(fault) => Err(store_status(fault)),
     }

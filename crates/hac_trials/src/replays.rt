@@ -1,10 +1,13 @@
 //! Which events can happen, which the program asks of the events of a store alone.
-ghost use Rattle.std.specs.Prelude.{IfOk, IsTrue};
+ghost use Rattle.std.specs.Prelude.{◌≡◌, ◌<◌, IfOk, IsTrue};
 ghost use Rattle.hac_model.specs.Tree.Sessions.{is_stored};
 
 use hac_core::{LoadFault, Machine, Replay};
 use hac_model::{Event, Kind, Mark, Memory, Name, Number, Query, Seq, Term, Version};
+use hac_outside::Steps;
 use std::alloc::{AllocError, Global};
+use std::marker::Brand;
+use std::sync::ledger::{Blank, Ledger};
 use std::test::Fail;
 
 #[test]
@@ -19,12 +22,12 @@ fn tells_which_events_can_happen(rt: HostRuntime) -> Result<(), Fail> {
 /// Whether each of six events can happen, one after the other.
 fn which_happen(alloc: Global, replay: &mut Replay) -> Result<[bool; 6], Memory> {
     Ok([
-        replay.happen(mkdir(alloc, b"a")?)?,
-        replay.happen(setq(alloc, 1))?,
-        replay.happen(setq(alloc, 0))?,
-        replay.happen(Event::Step)?,
-        replay.happen(rmdir(1))?,
-        replay.happen(rmdir(1))?,
+        happen(replay, mkdir(alloc, b"a")?)?,
+        happen(replay, setq(alloc, 1))?,
+        happen(replay, setq(alloc, 0))?,
+        happen(replay, Event::Step)?,
+        happen(replay, rmdir(1))?,
+        happen(replay, rmdir(1))?,
     ])
 }
 
@@ -41,12 +44,12 @@ fn prohibits_what_is_found(rt: HostRuntime) -> Result<(), Fail> {
 /// once it is prohibited.
 fn which_prohibit(alloc: Global, replay: &mut Replay) -> Result<[bool; 6], Memory> {
     Ok([
-        replay.happen(new_file(alloc, b"f", b"apple")?)?,
-        replay.happen(smkdir(alloc, b"s", b"apple")?)?,
-        replay.happen(prohibit(2, 1))?,
-        replay.happen(Event::Step)?,
-        replay.happen(prohibit(2, 1))?,
-        replay.happen(prohibit(2, 1))?,
+        happen(replay, new_file(alloc, b"f", b"apple")?)?,
+        happen(replay, smkdir(alloc, b"s", b"apple")?)?,
+        happen(replay, prohibit(2, 1))?,
+        happen(replay, Event::Step)?,
+        happen(replay, prohibit(2, 1))?,
+        happen(replay, prohibit(2, 1))?,
     ])
 }
 
@@ -54,7 +57,7 @@ fn which_prohibit(alloc: Global, replay: &mut Replay) -> Result<[bool; 6], Memor
 fn goes_on_from_what_was_stored(rt: HostRuntime) -> Result<(), Fail> {
     let mut replay = Replay::new(rt.alloc(), Version::Two)?;
     let before = which_prohibit(rt.alloc(), &mut replay);
-    let machine = replay.machine()?;
+    let machine = machine_of(replay)?;
     let told = which_happen_again(rt.alloc(), &machine);
     drop(machine);
     assert_eq!(rt; before?, [true, true, false, true, true, false]);
@@ -73,9 +76,46 @@ fn which_happen_again(alloc: Global, machine: &Machine) -> Result<[bool; 2], Loa
 
 fn happen_again(alloc: Global, replay: &mut Replay) -> Result<[bool; 2], Memory> {
     Ok([
-        replay.happen(prohibit(2, 1))?,
-        replay.happen(mkdir(alloc, b"a")?)?,
+        happen(replay, prohibit(2, 1))?,
+        happen(replay, mkdir(alloc, b"a")?)?,
     ])
+}
+
+/// Applies an event if it can happen, and says whether it could.
+fn happen(replay: &mut Replay, event: Event) -> Result<bool, Memory>
+    requires { IsTrue (is_stored event) }
+{
+    happen_counted::<Brand>(replay, event, Blank::new(1))
+}
+
+/// The same, with its questions for terms counted in a new ledger.
+fn happen_counted<L: Ledger>(
+    replay: &mut Replay,
+    event: Event,
+    blank: Blank,
+) -> Result<bool, Memory>
+    requires stored { IsTrue (is_stored event) }
+    requires name { blank.name ≡ L.name }
+    requires parts { blank.parts ≡ L.parts }
+    requires some { 0 < blank.parts }
+{
+    let mut probes: Steps<L> = Steps::new(blank);
+    replay.happen(event, &mut probes)
+}
+
+/// The machine of the state so far.
+fn machine_of(replay: Replay) -> Result<Machine, Memory> {
+    machine_counted::<Brand>(replay, Blank::new(1))
+}
+
+/// The same, with its questions for terms counted in a new ledger.
+fn machine_counted<L: Ledger>(replay: Replay, blank: Blank) -> Result<Machine, Memory>
+    requires name { blank.name ≡ L.name }
+    requires parts { blank.parts ≡ L.parts }
+    requires some { 0 < blank.parts }
+{
+    let mut probes: Steps<L> = Steps::new(blank);
+    replay.machine(&mut probes)
 }
 
 /// A directory is created in the root.

@@ -1,13 +1,15 @@
 //! Runs of the program over devices in memory.
-ghost use Rattle.std.specs.Prelude.{◌≡◌, [], false};
+ghost use Rattle.std.specs.Prelude.{◌≡◌, ◌<◌, [], false};
 
 use hac_disk::{Disk, MemoryDisk};
 use hac_model::Memory;
-use hac_outside::{MemorySink, MemorySource, Sink, Source};
+use hac_outside::{MemorySink, MemorySource, Sink, Source, Steps};
 use hac_top::{Status, run};
 use sem_mounts::{MemorySpaces, Spaces};
 use std::alloc::{AllocError, Global};
+use std::marker::Brand;
 use std::process::Abort;
+use std::sync::ledger::{Blank, Ledger};
 use std::test::Fail;
 
 pub const ROOM: u64 = 1 << 20;
@@ -48,11 +50,31 @@ pub fn run_on<S: Source, K: Sink, D: Disk, P: Spaces>(
     requires unended { (S.seen input.old).ended ≡ false }
     requires unattached { (P.seen spaces.old).attached ≡ [] }
 {
+    run_counted::<S, K, D, P, Brand>(alloc, words, input, output, disk, spaces, Blank::new(1))
+}
+
+/// The same, with its questions for terms counted in a new ledger.
+fn run_counted<S: Source, K: Sink, D: Disk, P: Spaces, L: Ledger>(
+    alloc: Global,
+    words: &[&str],
+    input: &mut S,
+    output: &mut K,
+    disk: &mut D,
+    spaces: &mut P,
+    blank: Blank,
+) -> Result<Status, Memory>
+    requires unended { (S.seen input.old).ended ≡ false }
+    requires unattached { (P.seen spaces.old).attached ≡ [] }
+    requires name { blank.name ≡ L.name }
+    requires parts { blank.parts ≡ L.parts }
+    requires some { 0 < blank.parts }
+{
+    let mut probes: Steps<L> = Steps::new(blank);
     let mut owned = Vec::new(alloc);
     for word in words {
         owned.push(String::from_str(alloc, word)?)?;
     }
-    Ok(run(alloc, &owned, input, output, disk, spaces))
+    Ok(run(alloc, &owned, input, output, disk, spaces, &mut probes))
 }
 
 /// A disk with an empty file, of whose calls those with these numbers fail.

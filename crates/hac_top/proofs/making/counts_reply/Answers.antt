@@ -2,12 +2,12 @@ use Rattle.hac_top.proofs.CountsLemmas.{counts-answers, counts-draft, counts-ref
 use Rattle.hac_top.proofs.making.counts_reply.Goals as goal
 
 pub check-requires : goal.check-requires
-check-requires c = counts-spelled c.in_ok-counts_line.field-0 c.in_ok-counts_line.ensures
+check-requires g c = counts-spelled c.in_ok-counts_line.field-0 c.in_ok-counts_line.ensures
 
 pub ask-requires-clause-answered : goal.ask-requires-clause-answered
-ask-requires-clause-answered c =
+ask-requires-clause-answered g c =
     let s = c.args.machine.now.state in
     counts-answers s c.in-Ok.draft c.no_answers.result c.no_answers.ensures (counts-draft s c.in_ok-counts_line.field-0 c.in-Ok.draft c.in_ok-counts_line.ensures c.in-Ok.ensures.draft)
 
 pub only_memory-requires-in-Err : goal.only_memory-requires-in-Err
-only_memory-requires-in-Err c = counts-refused c.args.machine.now.state c.in_ok-counts_line.field-0 c.in-Err.deny c.dirty-dirty.ensures.valid c.in_ok-counts_line.ensures c.in-Err.ensures.refused
+only_memory-requires-in-Err g c = counts-refused c.args.machine.now.state c.in_ok-counts_line.field-0 c.in-Err.deny c.dirty-dirty.ensures.valid c.in_ok-counts_line.ensures c.in-Err.ensures.refused

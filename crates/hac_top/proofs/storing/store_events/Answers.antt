@@ -10,7 +10,7 @@ returns-in-Change g c =
     let can = rw c.in-Change.is at c.requires.can in
     let event : Event = c.in-Change.change.event in
     let all = ap (λ (b : Bool). cond b (event ∷ []) []) can.2 in
-    rw c.in-Change.is (stores-once g.met.D.Disk.only_now c.command.result all c.requires.place c.command.ensures)
+    rw c.in-Change.is (stores-once g.met.D.Disk.only_now c.command.result all c.requires.place c.command.ensures.stores)
 
 pub returns-in_ok-stand-in-Session : goal.returns-in_ok-stand-in-Session
 returns-in_ok-stand-in-Session g c =

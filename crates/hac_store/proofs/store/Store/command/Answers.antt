@@ -1,4 +1,4 @@
-use Rattle.std.proofs.Common.{◌≡◌, IsTrue, ap, refl, subst, sym, ◌∙◌}
+use Rattle.std.proofs.Common.{◌≡◌, IsTrue, arith, ap, refl, subst, sym, ◌∙◌}
 use Rattle.hac_model.specs.Payload.Payloads.{is_spellable}
 use Rattle.hac_model.specs.Tree.Valid.{IsValid}
 use Rattle.hac_model.specs.declared.states.State.{State}
@@ -15,8 +15,11 @@ write_event-requires g c =
     subst (λ (v : Version). IsTrue (is_spellable v c.args.change.event)) (sym version)
     (accepted-spelled c.args.self.now.setting.state c.args.change.event (subst IsValid state c.self.invariant.0) c.requires.can.2 c.requires.can.0.0)
 
-pub returns-in-Err : goal.returns-in-Err
-returns-in-Err g c = none-stored g.met.D.Disk.only_now refl (refl, refl) refl
+pub returns-in-Err-clause-stores : goal.returns-in-Err-clause-stores
+returns-in-Err-clause-stores g c = none-stored g.met.D.Disk.only_now refl (refl, refl) refl
 
 pub put-requires-clause-stored : goal.put-requires-clause-stored
 put-requires-clause-stored g c = (c.requires.can.2, tt)
+
+pub returns-in-Ok-clause-probes : goal.returns-in-Ok-clause-probes
+returns-in-Ok-clause-probes g c = omega (arith, c.put.ensures.probes)

@@ -41,16 +41,16 @@ append-requires-clause-short g c =
     let stored = all-stored z.state.version events z.state refl (subst IsValid state c.self.invariant.0) happen c.requires.stored in
     subst AreShort (sym c.requires.texts) (texts-short z.state.version events (sessionless z.state) stored)
 
-pub returns-in_err-prepare : goal.returns-in_err-prepare
-returns-in_err-prepare g c =
+pub returns-in_err-prepare-clause-stores : goal.returns-in_err-prepare-clause-stores
+returns-in_err-prepare-clause-stores g c =
     let stop = err_from_is_err_and c.from_residual.result c.from_residual.ensures.1 in
     let same = put-seen c.args.self.now c.self.inside.machine.state c.prepare.new.self.state c.self.inside.start c.self.inside.end c.self.inside.generation c.self.inside.end c.self.inside.slot c.self.inside.broken []
     c.self.view_is (ap (λ (m : Kept). m.state) c.in_err-prepare.ensures.err) refl in
     rw (stop.1 ∙ ap Err stop.2)
     (none-stored g.met.D.Disk.only_now refl (same, refl) refl)
 
-pub returns-in-Ok : goal.returns-in-Ok
-returns-in-Ok g c =
+pub returns-in-Ok-clause-stores : goal.returns-in-Ok-clause-stores
+returns-in-Ok-clause-stores g c =
     let disk = g.D.Disk in
     let old = c.args.disk.now in
     let new = c.append.new.disk in
@@ -95,8 +95,8 @@ returns-in-Ok g c =
       reported = c.in-Ok.ensures.none (λ fails. cc);
     }
 
-pub returns-in-Err-Disk : goal.returns-in-Err-Disk
-returns-in-Err-Disk g c =
+pub returns-in-Err-Disk-clause-stores : goal.returns-in-Err-Disk-clause-stores
+returns-in-Err-Disk-clause-stores g c =
     let disk = g.D.Disk in
     let old = c.args.disk.now in
     let new = c.append.new.disk in
@@ -125,8 +125,8 @@ returns-in-Err-Disk g c =
       reported = (c.append.ensures.later, c.append.ensures.cause failed);
     }
 
-pub returns-in-Err-Full : goal.returns-in-Err-Full
-returns-in-Err-Full g c =
+pub returns-in-Err-Full-clause-stores : goal.returns-in-Err-Full-clause-stores
+returns-in-Err-Full-clause-stores g c =
     let z = c.args.self.now.setting in
     let events = settled_events c.args.settled in
     let size : c.self.inside.end ≡ z.end = ap (λ (x : Seen). x.setting.end) c.self.view_is in
@@ -139,9 +139,24 @@ returns-in-Err-Full g c =
     none-stored g.met.D.Disk.only_now quiet
     (no-room c.args.payloads.now events z c.requires.some c.requires.texts (full.0 failed), (same, quiet)) refl
 
-pub returns-in-Err-Memory : goal.returns-in-Err-Memory
-returns-in-Err-Memory g c =
+pub returns-in-Err-Memory-clause-stores : goal.returns-in-Err-Memory-clause-stores
+returns-in-Err-Memory-clause-stores g c =
     let quiet = c.append.ensures.unwritten (inr (c.in-Err-Memory.is ∙ ap (λ f. Err f) c.in-Err-Memory.field-0-is)) in
     let same = put-seen c.args.self.now c.self.inside.machine.state c.prepare.new.self.state c.self.inside.start c.self.inside.end c.self.inside.generation c.self.inside.end c.self.inside.slot c.self.inside.broken []
     c.self.view_is (ap (λ (m : Kept). m.state) c.in_ok-prepare.ensures.ok) refl in
     none-stored g.met.D.Disk.only_now quiet (same, quiet) refl
+
+pub returns-in_err-prepare-clause-probes : goal.returns-in_err-prepare-clause-probes
+returns-in_err-prepare-clause-probes g c = rw (ap (λ (x : Seen). x.setting.state) c.self.view_is) at c.prepare.ensures.probes
+
+pub returns-in-Ok-clause-probes : goal.returns-in-Ok-clause-probes
+returns-in-Ok-clause-probes g c = rw (ap (λ (x : Seen). x.setting.state) c.self.view_is) at c.prepare.ensures.probes
+
+pub returns-in-Err-Disk-clause-probes : goal.returns-in-Err-Disk-clause-probes
+returns-in-Err-Disk-clause-probes g c = rw (ap (λ (x : Seen). x.setting.state) c.self.view_is) at c.prepare.ensures.probes
+
+pub returns-in-Err-Full-clause-probes : goal.returns-in-Err-Full-clause-probes
+returns-in-Err-Full-clause-probes g c = rw (ap (λ (x : Seen). x.setting.state) c.self.view_is) at c.prepare.ensures.probes
+
+pub returns-in-Err-Memory-clause-probes : goal.returns-in-Err-Memory-clause-probes
+returns-in-Err-Memory-clause-probes g c = rw (ap (λ (x : Seen). x.setting.state) c.self.view_is) at c.prepare.ensures.probes
