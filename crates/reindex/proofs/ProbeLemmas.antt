@@ -29,6 +29,7 @@ use Rattle.hac_model.proofs.RangeLemmas.{range-in}
 use Rattle.hac_model.proofs.TreeLemmas.{entry_at-next, rise-below}
 use Rattle.reeval.specs.Probes.{is_moved, terms_along, terms_asked, terms_begun}
 use Rattle.reeval.specs.declared.settling.Stop.{Stop}
+use Rattle.reeval.proofs.ProbeLemmas.{along-cons, more-items}
 use Rattle.reeval.proofs.WeightLemmas.{along-most, ordered-once, sum-once, sum-only}
 use Rattle.reindex.specs.Steps.{indexed_through}
 use Rattle.reindex.specs.Ways.{IsWayOf, begun, begun_at, needed, stops_from, with_first}
@@ -38,10 +39,6 @@ use Rattle.reindex.proofs.StepLemmas.{step-some}
 use Rattle.reindex.proofs.WayLemmas.{dirs-way, first-there, once-from}
 
 -- Ways.
-
--- one stop more
-along-first : (t : State) (stop : Stop) (stops : List Stop) → terms_along t (stop ∷ stops) ≡ terms_at t stop.dir + terms_along t stops
-along-first t stop stops = sum_by-cons (λ (stop : Stop). terms_at t stop.dir) stop stops
 
 -- the way to all semantic directories has no more terms than all queries
 pub along-way : (t : State) (way : Way) → IsWayOf t way → IsValid t → terms_along t way.stops.items ≤ weight t
@@ -53,16 +50,16 @@ along-kept t p [] = omega arith
 along-kept t p (stop ∷ stops) = by (along-kept t p stops) (p stop)
   where
     by : terms_along t (filter p stops) ≤ terms_along t stops → (b : Bool) → terms_along t (if b then stop ∷ filter p stops else filter p stops) ≤ terms_along t (stop ∷ stops)
-    by rest true = let more = along-first t stop (filter p stops) in let all = along-first t stop stops in omega (arith, rest, more, all)
-    by rest false = let all = along-first t stop stops in omega (arith, rest, all)
+    by rest true = let more = along-cons t stop (filter p stops) in let all = along-cons t stop stops in omega (arith, rest, more, all)
+    by rest false = let all = along-cons t stop stops in omega (arith, rest, all)
 
 -- it matters not where judging begins
 along-begun : (t : State) (begins : ℕ → Bool) (stops : List Stop) → terms_along t (begun_at begins stops) ≡ terms_along t stops
 along-begun t begins [] = refl
 along-begun t begins (stop ∷ stops) =
-    along-first t (begun begins stop) (begun_at begins stops)
+    along-cons t (begun begins stop) (begun_at begins stops)
     ∙ ap (λ (rest : ℕ). terms_at t stop.dir + rest) (along-begun t begins stops)
-    ∙ sym (along-first t stop stops)
+    ∙ sym (along-cons t stop stops)
 
 -- so neither have the stops of that way at which an item may be judged
 pub along-needed : (t : State) (way : Way) → IsWayOf t way → IsValid t → (begins : ℕ → Bool) → terms_along t (needed (begun_at begins way.stops.items)) ≤ weight t
@@ -122,12 +119,10 @@ moved-from s t item first ties edges cone h =
 -- Item by item.
 
 -- the questions for one item more
-pub more-items : (items : List ℕ) (i item : ℕ) (most old before after : ℕ) → i < length items → before + length (drop i items) * most ≤ old + length items * most → after ≤ before + most →
+pub more-at : (items : List ℕ) (i item : ℕ) (most old before after : ℕ) → i < length items → before + length (drop i items) * most ≤ old + length items * most → after ≤ before + most →
     after + length (drop (i + 1) items) * most ≤ old + length items * most
-more-items items i item most old before after less had more =
-    let left : length (drop i items) ≡ suc (length (drop (i + 1) items)) = ap (λ (ns : List ℕ). length ns) (drop_more items i item less) in
-    let all : length (drop i items) * most ≡ suc (length (drop (i + 1) items)) * most = ap (λ (n : ℕ). n * most) left in
-    omega (arith, had, more, all)
+more-at items i item most old before after less had more =
+    more-items (drop (i + 1) items) items item most old before after (subst (λ (left : List ℕ). before + length left * most ≤ old + length items * most) (drop_more items i item less) had) more
 
 -- of a number it takes some if it is that of an item
 pub more-numbers : (p : ℕ → Bool) (n : ℕ) (left ns : List ℕ) (most room before after : ℕ) → ns ≡ n ∷ left → before + length (filter p ns) * most ≤ room → after ≤ before + (if p n then most else 0) →

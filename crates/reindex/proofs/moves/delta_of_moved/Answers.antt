@@ -1,7 +1,7 @@
 use Rattle.std.proofs.Common.{ap, arith, ◌∙◌}
 use Rattle.std.specs.Prelude.{◌++◌}
 use Rattle.hac_model.specs.Tree.Costs.{weight}
-use Rattle.reindex.proofs.ProbeLemmas.{more-items}
+use Rattle.reindex.proofs.ProbeLemmas.{more-at}
 use Rattle.reindex.proofs.SettledLemmas.{among-at, settled-next, settled-none}
 use Rattle.reindex.proofs.moves.delta_of_moved.Goals as goal
 
@@ -17,6 +17,6 @@ loop-item-preserved g c = (
       c.requires.once c.loop-item-test.true c.item-item.is
       (c.in_ok-extend_from_slice.ensures.items ∙ ap (λ more. c.loop-item.delta.items ++ more) c.as_slice.ensures.value)
       c.in_ok-news.ensures.own (c.in_ok-news.ensures.news atoms) (c.loop-item.invariant.0 atoms),
-  more-items c.args.items.now c.loop-item.item-index c.item-item.result (weight (g.Y.Layout.state c.args.layout.now)) c.args.probes.now c.loop-item.probes c.news_of_moved.new.probes
+  more-at c.args.items.now c.loop-item.item-index c.item-item.result (weight (g.Y.Layout.state c.args.layout.now)) c.args.probes.now c.loop-item.probes c.news_of_moved.new.probes
       c.loop-item-test.true c.loop-item.invariant.1 c.in_ok-news.ensures.probes,
 )
