@@ -1,5 +1,5 @@
 -- What an event may cost that isn't stored.
-use Rattle.std.proofs.Common.{◌≡◌, ℕ, ◌+◌, ◌*◌, ◌∷◌, [], Bool, false, List, filter, length, refl, ◌∙◌, ap, arith}
+use Rattle.std.proofs.Common.{◌≡◌, ℕ, ◌+◌, ◌*◌, ◌∷◌, [], false, List, filter, length, refl, ◌∙◌, ap, arith}
 use Rattle.std.specs.List.{range_with_len}
 use Rattle.hac_model.specs.Tree.Costs.{cost, weight}
 use Rattle.hac_model.specs.Tree.Events.{apply}

@@ -1,5 +1,6 @@
 -- Whether records fit behind the end of a log.
 use Rattle.std.proofs.Common.{◌≡◌, ℕ, zero, suc, ◌+◌, ◌*◌, ◌<◌, ◌≤◌, List, [], ◌∷◌, length, map, nat_lt, ◌==◌, ◌||◌, Bool, replicate, IsTrue, true, false, refl, sym, ◌∙◌, ap, arith, length-append, ⊎_elim, Vec}
+use Rattle.std.specs.Prelude.{if◌then◌else◌}
 use Rattle.std.specs.declared.alloc.Global.{Global}
 use Rattle.std.proofs.lemmas.Bool.{cases_lt}
 use Rattle.std.proofs.lemmas.Bool.Decides.{nat_tests}
@@ -11,7 +12,9 @@ use Rattle.hac_model.specs.Versions.{store_limit}
 use Rattle.hac_model.specs.declared.events.Event.{Event}
 use Rattle.hac_model.specs.declared.events.Event.TheVariants.{Step}
 use Rattle.hac_model.specs.declared.versions.Version.{Version}
+use Rattle.hac_model.specs.Tree.Costs.{costs}
 use Rattle.hac_store.specs.Stores.{fit_behind}
+use Rattle.hac_store.specs.Storing.{storing_cost}
 
 -- an index step is spelled by two bytes
 step-text : (version : Version) → event_text version Step ≡ event_kind version ∷ 15 ∷ []
@@ -33,6 +36,25 @@ steps-have-room z (suc count) =
     let some : (suc count == 0) ≡ false = grind (arith, nat_tests) in
     let limit = store_limit z.state.version in
     ap (λ (n : ℕ). nat_lt n limit) (end-steps z.state.version (suc count) z.end) ∙ ap (λ (b : Bool). b || nat_lt (z.end + suc count * 7) limit) (sym some)
+
+-- one event has room where its record has, whose payload is its text
+pub record-has-room : (z : Setting) (event : Event) (version : Version) (payload : List ℕ) (size : ℕ) → version ≡ z.state.version → payload ≡ event_text version event → size ≡ length payload →
+    have_room z (event ∷ []) ≡ fit_behind z.state.version z.end 1 size
+record-has-room z event version payload size same is long =
+    let text : length payload ≡ length (event_text z.state.version event) = ap (λ (bytes : List ℕ). length bytes) is ∙ ap (λ (v : Version). length (event_text v event)) same in
+    ap (λ (n : ℕ). nat_lt n (store_limit z.state.version)) (omega (arith, long, text))
+
+-- where there is room, storing may ask what the events cost
+pub room-costs : (z : Setting) (events : List Event) → have_room z events ≡ true → storing_cost z events ≡ costs z.state events
+room-costs z events room = ap (λ (b : Bool). if b then costs z.state events else 0) room
+
+-- and it never may ask more
+pub storing-within : (z : Setting) (events : List Event) → storing_cost z events ≤ costs z.state events
+storing-within z events = by (have_room z events)
+  where
+    by : (b : Bool) → (if b then costs z.state events else 0) ≤ costs z.state events
+    by true = omega arith
+    by false = omega arith
 
 -- records of events are as long as they count
 pub end-length : (version : Version) (events : List Event) (end : ℕ) → end_behind version end events ≡ end + length (records_of (map (event_text version) events))

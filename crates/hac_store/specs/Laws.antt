@@ -1,5 +1,5 @@
 -- What holds of stores by their definition alone.
-use Rattle.std.specs.Prelude.{◌≡◌, ◌<◌, ◌+◌, ◌-◌, ◌^◌, ℕ, List, [], ◌∷◌, None, length, nat_lt, replicate, if◌then◌else◌, IsTrue}
+use Rattle.std.specs.Prelude.{◌≡◌, ℕ, List, [], ◌∷◌, replicate, IsTrue}
 use Rattle.hac_disk.specs.Images.{overlaid}
 use Rattle.hac_journal.specs.Records.{log_of}
 use Rattle.hac_model.specs.Tree.Events.{accepted}
@@ -8,7 +8,6 @@ use Rattle.hac_model.specs.Payload.Payloads.{event_text}
 use Rattle.hac_model.specs.Run.Play.{Setting, after_events, have_room}
 use Rattle.hac_model.specs.declared.events.Event.{Event}
 use Rattle.hac_model.specs.declared.events.Event.TheVariants.{Step}
-use Rattle.hac_model.specs.declared.states.State.{State}
 use Rattle.hac_store.specs.Stores.{IsHeldAs, fit_behind}
 
 -- where a file holds a store, and the record of an event that can happen and is stored is put at its end, the file

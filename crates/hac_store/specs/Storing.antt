@@ -1,16 +1,21 @@
 -- What becomes of a store and of its disk where events are stored.
-use Rattle.std.specs.Prelude.{◌≡◌, ℕ, Bool, true, false, List, Option, Result, Ok, Err, OnOk, map}
+use Rattle.std.specs.Prelude.{◌≡◌, ℕ, if◌then◌else◌, Bool, true, false, List, Option, Result, Ok, Err, OnOk, map}
 use Rattle.hac_disk.specs.Images.{LeavesOnly}
 use Rattle.hac_disk.specs.Contents.{IsSettled, Written}
 use Rattle.hac_outside.specs.Causes.{ReportsFault}
 use Rattle.hac_journal.specs.Records.{log_of}
 use Rattle.hac_model.specs.Payload.Payloads.{event_text}
-use Rattle.hac_model.specs.Run.Play.{have_room}
+use Rattle.hac_model.specs.Run.Play.{Setting, have_room}
+use Rattle.hac_model.specs.Tree.Costs.{costs}
 use Rattle.hac_model.specs.declared.events.Event.{Event}
 use Rattle.hac_store.specs.Faults.{is_disk_fault}
 use Rattle.hac_store.specs.Stores.{Bears, HeldBetween, Seen, Stands, store_after}
 use Rattle.hac_store.specs.declared.fault.StoreFault.{StoreFault}
 use Rattle.hac_store.specs.declared.fault.StoreFault.TheVariants.{Disk, NotStore, AlreadyStore, Full, Memory}
+
+-- how many questions for terms storing events may take; where the store has no room for them, none
+abbrev pub storing_cost : Setting → List Event → ℕ
+storing_cost setting events = if have_room setting events then costs setting.state events else 0
 
 -- all events happened: their records were written behind the log, and last
 pub record AllStored (file new_file : Option (List ℕ)) (image : List ℕ → Type 0) (before after : Seen) (events : List Event) : Type 0 where

@@ -5,10 +5,10 @@ ghost use Rattle.hac_journal.specs.Records.{contents_of};
 ghost use Rattle.hac_model.specs.Laws.{AllHappen};
 ghost use Rattle.hac_model.specs.Payload.Payloads.{event_text};
 ghost use Rattle.hac_model.specs.Run.Play.{have_room};
-ghost use Rattle.hac_model.specs.Tree.Costs.{cost, costs};
+ghost use Rattle.hac_model.specs.Tree.Costs.{costs};
 ghost use Rattle.hac_model.specs.declared.events.Event.TheVariants as event;
 ghost use Rattle.hac_core.specs.Drafts.{CanSettle, settled_events};
-ghost use Rattle.hac_store.specs.Storing.{StoresEvents};
+ghost use Rattle.hac_store.specs.Storing.{StoresEvents, storing_cost};
 ghost use Rattle.hac_store.specs.Stores.{AreForStore, Bears, unstored_after};
 
 use crate::fault::StoreFault;
@@ -23,8 +23,9 @@ use std::alloc::Global;
 use std::sync::ledger::Ledger;
 
 impl Store {
-    /// Stores an event, and then applies it. After `Full` and `Memory` nothing was written and all
-    /// is as before; after `Disk` the store is broken.
+    /// Stores an event, and then applies it. Whether there is room for it is found first. After
+    /// `Full` and `Memory` nothing was written and all is as before; after `Disk` the store is
+    /// broken.
     pub fn command<D: Disk, L: Ledger>(
         &mut self,
         disk: &mut D,
@@ -36,10 +37,16 @@ impl Store {
         requires place { Bears (D.seen disk.old) self.old }
         ensures stores { StoresEvents D.seen D.image D.moment D.image_since D.attached D.faults
             disk.old disk.new self.old self.new (change.event ∷ []) result }
-        ensures probes { probes.new ≤ probes.old + cost self.old.setting.state change.event }
+        ensures probes { probes.new ≤ probes.old
+            + storing_cost self.old.setting (change.event ∷ []) }
     {
         match write_event(self.alloc, self.machine.version(), &change.event) {
-            Ok(payload) => self.put(disk, Settled::Change(change), &[payload], probes),
+            Ok(payload) => {
+                if !self.room_for(1, payload.len() as u64) {
+                    return Err(StoreFault::Full);
+                }
+                self.put(disk, Settled::Change(change), &[payload], probes)
+            }
             Err(_) => {
                 drop(change);
                 Err(StoreFault::Memory)
@@ -65,7 +72,7 @@ impl Store {
         ensures room { have_room self.old.setting (replicate count event.Step) ≡ false →
             IsErrOf result StoreFault.Full }
         ensures probes { probes.new ≤ probes.old
-            + costs self.old.setting.state (replicate count event.Step) }
+            + storing_cost self.old.setting (replicate count event.Step) }
     {
         if !self.room_for(count, 2) {
             return Err(StoreFault::Full);

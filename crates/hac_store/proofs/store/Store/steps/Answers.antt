@@ -1,7 +1,9 @@
-use Rattle.std.proofs.Common.{◌≡◌, true, false, Err, ap, refl, ◌∙◌, sym}
+use Rattle.std.proofs.Common.{◌≡◌, true, false, replicate, Err, ap, arith, refl, ◌∙◌, sym}
 use Rattle.std.proofs.lemmas.Result.{err_from_is_err_and}
+use Rattle.hac_model.specs.Run.Play.{have_room}
+use Rattle.hac_model.specs.declared.events.Event.TheVariants.{Step}
 use Rattle.hac_store.proofs.PutLemmas.{none-stored, steps-kept}
-use Rattle.hac_store.proofs.RoomLemmas.{steps-have-room}
+use Rattle.hac_store.proofs.RoomLemmas.{room-costs, steps-have-room}
 use Rattle.hac_store.proofs.store.Store.steps.Goals as goal
 
 pub returns-then-not-room_for-clause-stores : goal.returns-then-not-room_for-clause-stores
@@ -26,3 +28,10 @@ returns-clause-room g c = λ none.
 
 pub put-requires-clause-stored : goal.put-requires-clause-stored
 put-requires-clause-stored g c = steps-kept c.args.count
+
+pub returns-clause-probes : goal.returns-clause-probes
+returns-clause-probes g c =
+    let z = c.args.self.now.setting in
+    let room : have_room z (replicate c.args.count Step) ≡ true = steps-have-room z c.args.count ∙ sym c.room_for.ensures ∙ c.if-not-room_for.false in
+    let all = room-costs z (replicate c.args.count Step) room in
+    omega (arith, c.put.ensures.probes, all)
