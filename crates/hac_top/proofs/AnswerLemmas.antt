@@ -3,6 +3,8 @@ use Rattle.std.proofs.Common.{◌≡◌, ℕ, zero, suc, ◌≤◌, rules, true,
 use Rattle.std.specs.Prelude.{◌⊎◌, ◌||◌, if◌then◌else◌, filter, Option, None, Some, Result, Ok, Err, IfErr, OnOk}
 use Rattle.std.specs.Option.{IfSome}
 use Rattle.hac_disk.proofs.Moments.{then_run, weaken}
+use Rattle.hac_model.specs.Run.Costs.{answering_line}
+use Rattle.hac_model.specs.Tree.Costs.{costs}
 use Rattle.hac_model.specs.Tree.Events.{apply_all}
 use Rattle.hac_model.specs.Run.Play.{Setting, Turn, after_events, all_events, can_step, has_refusal, is_refused, nothing_given, refused_turn, steps_behind, stored_setting, turns_text}
 use Rattle.hac_model.specs.Script.Lines.{Item}
@@ -22,7 +24,7 @@ use Rattle.hac_top.specs.Asking.{given_by}
 use Rattle.hac_top.specs.Crashes.{Holds, IsTreeAfter, IsTreeOfAnswered}
 use Rattle.hac_top.specs.Ends.{is_disk_fault}
 use Rattle.hac_top.specs.Replies.{CutsWriting, StopsWriting, WritesAll}
-use Rattle.hac_top.specs.Storing.{AnswersItems, AnswersLine, AreTurns, IsTurnOf, StopsAnswer, StopsCommand, Stores, StoresItem, StoresSteps, StoresTurn}
+use Rattle.hac_top.specs.Storing.{AnswersItems, AnswersLine, AreTurns, IsBare, IsTurnOf, StopsAnswer, StopsCommand, Stores, StoresItem, StoresSteps, StoresTurn}
 use Rattle.hac_top.specs.Ticking.{command_events, told_turn}
 use Rattle.hac_model.specs.Script.Printed.{text}
 use Rattle.hac_top.specs.TakenLines.{items_of_piece}
@@ -31,6 +33,7 @@ use Rattle.shell_lang.specs.declared.reading.Piece.{Piece}
 use Rattle.shell_lang.specs.declared.reading.Piece.TheVariants.{Blank, End}
 use Rattle.hac_top.specs.declared.status.Status.{Status}
 use Rattle.hac_top.specs.declared.status.Status.TheVariants.{WriteFault, DiskFault, Memory}
+use Rattle.hac_top.proofs.CostLemmas.{line-cost}
 use Rattle.hac_top.proofs.CrashLemmas.{holds-weaker, tree-more, tree-then}
 use Rattle.hac_top.proofs.StoringLemmas.{stores-nothing, told-since}
 use Rattle.hac_top.proofs.TickLemmas.{ticked, turn-ticks}
@@ -80,13 +83,16 @@ line-refused tick turn reply was now (Err status) same told = tt
 line-refused tick turn reply was now (Ok done) same told = told ∙ ap (λ (b : Bool). was || b) (ap is_refused same ∙ sym (or-none (is_refused turn.reply)))
 
 -- the turn of a line is that without steps, and the steps behind it
-line-turns : (contents : Contents) (fault : Option (List ℕ)) (tick : ℕ) (setting : Setting) (item : Item) (turn : Turn) → IsTurnOf contents fault setting item turn → AreTurns contents (fault ∷ []) tick setting (item ∷ []) (ticked tick turn ∷ [])
-line-turns contents fault tick setting item turn of =
+line-turns : (contents : Contents) (fault : Option (List ℕ)) (tick : ℕ) (setting : Setting) (item : Item) (turn : Turn) (probes probes_now : ℕ) → IsTurnOf contents fault setting item turn → IsBare setting turn →
+    probes_now ≤ probes + (answering_line setting.state item + costs setting.state turn.events + costs turn.after.state (steps_behind tick turn.after)) →
+    AreTurns contents (fault ∷ []) tick setting (item ∷ []) (ticked tick turn ∷ []) probes probes_now
+line-turns contents fault tick setting item turn probes probes_now of bare asks =
     let given = given_by contents (fault ∷ []) tick in
     record {
       are = ap (λ (t : Turn). ticked tick t ∷ []) of.is ∙ ap (λ (t : Turn). t ∷ []) (sym (turn-ticks contents (fault ∷ []) tick setting item));
       count = refl;
       askable = (fails-same contents 0 tick (fault ∷ []) (fault ∷ []) setting.state item fault of.may, refl);
+      asks = subst (λ (most : ℕ). probes_now ≤ probes + most) (sym (line-cost contents fault tick setting item turn of bare)) asks;
     }
 
 -- a blank line asks for nothing, nor does the end of a script
@@ -259,24 +265,26 @@ module _ {D : Type 0} {seen : D → Option (List ℕ)} {image : D → List ℕ �
   -- A line, whose turn is known where the contents of the spaces are told.
 
   -- no reply was told
-  pub item-stops : (old new : D) (spaces left : SpacesSeen) (before after : Seen) (tick : ℕ) (item : Item) (sink : SinkSeen) (was now : Bool) (status : Status) →
-      StoresItem seen image moment image_since attached faults old new spaces left before after item (Err status) →
-      AnswersItems seen image moment image_since attached faults old new spaces left tick before after sink sink (item ∷ []) was now (Err status)
-  item-stops old new spaces left before after tick item sink was now status went =
+  pub item-stops : (old new : D) (spaces left : SpacesSeen) (before after : Seen) (tick : ℕ) (item : Item) (sink : SinkSeen) (was now : Bool) (probes probes_now : ℕ) (status : Status) →
+      StoresItem seen image moment image_since attached faults old new spaces left before after item probes probes_now (Err status) →
+      AnswersItems seen image moment image_since attached faults old new spaces left tick before after sink sink (item ∷ []) was now probes probes_now (Err status)
+  item-stops old new spaces left before after tick item sink was now probes probes_now status went =
       record {
         met = went.fault ∷ [];
         asked = went.asked;
         answered = ticked tick went.turn ∷ [];
         few = omega arith;
         leads = ticked-leads tick before.setting went.turn went.bare.leads;
-        told = told-alike (λ contents. IsTurnOf contents went.fault before.setting item went.turn) (λ contents. AreTurns contents (went.fault ∷ []) tick before.setting (item ∷ []) (ticked tick went.turn ∷ [])) spaces.contents (λ contents of. line-turns contents went.fault tick before.setting item went.turn of) went.told;
+        told =
+            told-alike (λ contents. IsTurnOf contents went.fault before.setting item went.turn) (λ contents. AreTurns contents (went.fault ∷ []) tick before.setting (item ∷ []) (ticked tick went.turn ∷ []) probes probes_now) spaces.contents
+            (λ contents of. line-turns contents went.fault tick before.setting item went.turn probes probes_now of went.bare (omega (arith, went.asks))) went.told;
         refused = tt;
         ok = tt;
         err = command-stops old new before after tick went.turn sink status went.bare.own went.stores;
       }
 
-  module _ (old mid new : D) (spaces left : SpacesSeen) (before store after : Seen) (reply : Reply) (sink sink_after : SinkSeen) (tick : ℕ) (item : Item)
-      (went : StoresItem seen image moment image_since attached faults old mid spaces left before store item (Ok reply)) where
+  module _ (old mid new : D) (spaces left : SpacesSeen) (before store after : Seen) (reply : Reply) (sink sink_after : SinkSeen) (tick : ℕ) (item : Item) (probes probes_told probes_now : ℕ)
+      (went : StoresItem seen image moment image_since attached faults old mid spaces left before store item probes probes_told (Ok reply)) where
     line-told : (result : Result (Unit {0}) Status) → OnOk result (AnswersLine seen image moment image_since attached faults mid new store after sink sink_after (told_turn tick store.setting reply ∷ [])) →
         OnOk result (AnswersLine seen image moment image_since attached faults old new before after sink sink_after (ticked tick went.turn ∷ []))
     line-told (Err status) answers = tt
@@ -291,27 +299,36 @@ module _ {D : Type 0} {seen : D → Option (List ℕ)} {image : D → List ℕ �
     pub item-told : (was now : Bool) (result : Result (Unit {0}) Status) → OnOk result (now ≡ (was || is_refused reply)) →
         OnOk result (AnswersLine seen image moment image_since attached faults mid new store after sink sink_after (told_turn tick store.setting reply ∷ [])) →
         IfErr result (StopsAnswer seen image moment image_since attached faults mid new store.setting sink sink_after (told_turn tick store.setting reply ∷ [])) →
-        AnswersItems seen image moment image_since attached faults old new spaces left tick before after sink sink_after (item ∷ []) was now result
-    item-told was now result told_refused answers stops =
+        probes_now ≤ probes_told + costs store.setting.state (steps_behind tick store.setting) →
+        AnswersItems seen image moment image_since attached faults old new spaces left tick before after sink sink_after (item ∷ []) was now probes probes_now result
+    item-told was now result told_refused answers stops asks =
         record {
           met = went.fault ∷ [];
           asked = went.asked;
           answered = ticked tick went.turn ∷ [];
           few = omega arith;
           leads = ticked-leads tick before.setting went.turn went.bare.leads;
-          told = told-alike (λ contents. IsTurnOf contents went.fault before.setting item went.turn) (λ contents. AreTurns contents (went.fault ∷ []) tick before.setting (item ∷ []) (ticked tick went.turn ∷ [])) spaces.contents (λ contents of. line-turns contents went.fault tick before.setting item went.turn of) went.told;
+          told =
+              told-alike (λ contents. IsTurnOf contents went.fault before.setting item went.turn) (λ contents. AreTurns contents (went.fault ∷ []) tick before.setting (item ∷ []) (ticked tick went.turn ∷ []) probes probes_now) spaces.contents
+              (λ contents of. line-turns contents went.fault tick before.setting item went.turn probes probes_now of went.bare all-asks) went.told;
           refused = line-refused tick went.turn reply was now result went.stores.ok.reply_is told_refused;
           ok = line-told result answers;
           err = line-stops-behind result stops;
         }
+      where
+        all-asks : probes_now ≤ probes + (answering_line before.setting.state item + costs before.setting.state went.turn.events + costs went.turn.after.state (steps_behind tick went.turn.after))
+        all-asks =
+            let behind = subst (λ (z : Setting). probes_now ≤ probes_told + costs z.state (steps_behind tick z)) went.stores.ok.setting asks in
+            omega (arith, went.asks, behind)
 
   -- A line that is refused by its form asks nothing.
-  pub form-told : (old new : D) (spaces : SpacesSeen) (before after : Seen) (sink sink_after : SinkSeen) (tick : ℕ) (refusal : Refusal) (was now : Bool) (result : Result (Unit {0}) Status) →
+  pub form-told : (old new : D) (spaces : SpacesSeen) (before after : Seen) (sink sink_after : SinkSeen) (tick : ℕ) (refusal : Refusal) (was now : Bool) (probes probes_now : ℕ) (result : Result (Unit {0}) Status) →
       OnOk result (now ≡ (was || is_refused (Refused refusal))) →
       OnOk result (AnswersLine seen image moment image_since attached faults old new before after sink sink_after (told_turn tick before.setting (Refused refusal) ∷ [])) →
       IfErr result (StopsAnswer seen image moment image_since attached faults old new before.setting sink sink_after (told_turn tick before.setting (Refused refusal) ∷ [])) →
-      AnswersItems seen image moment image_since attached faults old new spaces spaces tick before after sink sink_after (Err refusal ∷ []) was now result
-  form-told old new spaces before after sink sink_after tick refusal was now result told_refused answers stops =
+      probes_now ≤ probes + costs before.setting.state (steps_behind tick before.setting) →
+      AnswersItems seen image moment image_since attached faults old new spaces spaces tick before after sink sink_after (Err refusal ∷ []) was now probes probes_now result
+  form-told old new spaces before after sink sink_after tick refusal was now probes probes_now result told_refused answers stops asks =
       record {
         met = None ∷ [];
         asked = record { stay = record { attached = refl; contents = refl; later = omega arith }; count = refl };
@@ -324,18 +341,18 @@ module _ {D : Type 0} {seen : D → Option (List ℕ)} {image : D → List ℕ �
         err = stops;
       }
     where
-      told : (o : Option Contents) → IfSome o (λ contents. AreTurns contents (None ∷ []) tick before.setting (Err refusal ∷ []) (told_turn tick before.setting (Refused refusal) ∷ []))
+      told : (o : Option Contents) → IfSome o (λ contents. AreTurns contents (None ∷ []) tick before.setting (Err refusal ∷ []) (told_turn tick before.setting (Refused refusal) ∷ []) probes probes_now)
       told None = search rules
-      told (Some contents) = record { are = refl; count = refl; askable = (tt, refl) }
+      told (Some contents) = record { are = refl; count = refl; askable = (tt, refl); asks = omega (arith, asks) }
 
       told_refused_on : (result : Result (Unit {0}) Status) → OnOk result (now ≡ (was || is_refused (Refused refusal))) → OnOk result (now ≡ (was || has_refusal (told_turn tick before.setting (Refused refusal) ∷ [])))
       told_refused_on (Ok done) is = is
       told_refused_on (Err status) is = tt
 
   -- nothing is answered
-  pub none-told : ((disk : D) (c : List ℕ) → image_since disk (moment disk) c → image disk c) → (disk : D) (spaces : SpacesSeen) (store : Seen) (sink : SinkSeen) (tick : ℕ) (was : Bool) → Bears (seen disk) store →
-      AnswersItems seen image moment image_since attached faults disk disk spaces spaces tick store store sink sink [] was was (Ok tt)
-  none-told only_now disk spaces store sink tick was place =
+  pub none-told : ((disk : D) (c : List ℕ) → image_since disk (moment disk) c → image disk c) → (disk : D) (spaces : SpacesSeen) (store : Seen) (sink : SinkSeen) (tick : ℕ) (was : Bool) (probes : ℕ) → Bears (seen disk) store →
+      AnswersItems seen image moment image_since attached faults disk disk spaces spaces tick store store sink sink [] was was probes probes (Ok tt)
+  none-told only_now disk spaces store sink tick was probes place =
       record {
         met = [];
         asked = record { stay = record { attached = refl; contents = refl; later = omega arith }; count = refl };
@@ -355,6 +372,6 @@ module _ {D : Type 0} {seen : D → Option (List ℕ)} {image : D → List ℕ �
         err = tt;
       }
     where
-      told : (o : Option Contents) → IfSome o (λ contents. AreTurns contents [] tick store.setting [] [])
+      told : (o : Option Contents) → IfSome o (λ contents. AreTurns contents [] tick store.setting [] [] probes probes)
       told None = search rules
-      told (Some contents) = record { are = refl; count = refl; askable = refl }
+      told (Some contents) = record { are = refl; count = refl; askable = refl; asks = omega arith }

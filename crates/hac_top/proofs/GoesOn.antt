@@ -1,10 +1,11 @@
 -- What stays true of a run from line to line: the lines so far were answered, and what is pending is to come.
-use Rattle.std.proofs.Common.{◌≡◌, ℕ, false, Bool, List, [], ◌++◌, length, Option}
+use Rattle.std.proofs.Common.{◌≡◌, ℕ, ◌+◌, ◌≤◌, false, Bool, List, [], ◌++◌, length, take, Option}
 use Rattle.std.specs.Option.{IfSome}
 use Rattle.std.specs.Io.KnownBytes.{Appends}
 use Rattle.hac_disk.specs.Images.{LeavesOnly}
 use Rattle.hac_outside.specs.Known.{Known}
 use Rattle.hac_outside.specs.Seen.{SinkSeen}
+use Rattle.hac_model.specs.Run.Costs.{lines_cost}
 use Rattle.hac_model.specs.Run.Play.{AreAskable, Given, Setting, Turn, all_events, has_refusal, left_by, play, turns, turns_text}
 use Rattle.hac_model.specs.Script.{first_items, script, whole}
 use Rattle.hac_model.specs.Tree.Events.{apply_all}
@@ -39,12 +40,14 @@ pub record Goes (given pending_given : Given) (first : Setting) (script pending 
 abbrev pub fresh_reader : Reading
 fresh_reader = record { buffered = []; taken = 0; ended = false }
 
--- The lines so far are those that were played, and their commands met these faults.
-pub record IsPlayed (contents : Contents) (met : List (Option (List ℕ))) (tick : ℕ) (first : Setting) (bytes pending : List ℕ) (ended : Bool) (setting : Setting) (refused : Bool) (before now : SinkSeen) (answered : List Turn) : Type 0 where
-  pub goes : Goes (given_by contents met tick) (given_by contents [] tick) first bytes pending ended setting refused before now
+-- The lines so far are those that were played, and their commands met these faults. No more terms are asked than they may
+-- take.
+pub record IsPlayed (contents : Contents) (met : List (Option (List ℕ))) (tick : ℕ) (first : Setting) (bytes pending : List ℕ) (ended : Bool) (setting : Setting) (refused : Bool) (before now : Outside) (answered : List Turn) : Type 0 where
+  pub goes : Goes (given_by contents met tick) (given_by contents [] tick) first bytes pending ended setting refused before.sink now.sink
   pub answered_is : answered ≡ turns_of (given_by contents met tick) first goes.played goes.last
   pub count : length met ≡ length answered
   pub askable : AreAskable (given_by contents met tick) first (script goes.played ++ first_items goes.last)
+  pub asks : now.probes ≤ before.probes + lines_cost (given_by contents met tick) first (take (length answered) (script bytes))
 
 -- Between two lines no call of the source, the sink or the disk has failed, and all was passed on. The disk stands for
 -- what the lines so far left, and a crash since the run began leaves the tree after some of the events of their turns.
@@ -55,7 +58,7 @@ pub record RunsOn {D : Type 0} (seen : D → Option (List ℕ)) (image : D → L
   pub answered : List Turn
   pub leads : stored store.setting.state ≡ apply_all (stored first.state) (all_events answered)
   pub goes : IfSome spaces.contents (λ contents.
-      Known (λ bytes pending. IsPlayed contents met tick first bytes pending reader.ended store.setting refused before.sink now.sink answered) before.source.left (pending reader now.source.left))
+      Known (λ bytes pending. IsPlayed contents met tick first bytes pending reader.ended store.setting refused before now answered) before.source.left (pending reader now.source.left))
   pub reads : IsReaderOf reader now.source
   pub source : LeavesSource false fresh_reader reader before.source now.source
   pub passed : before.sink.held_back ≡ 0 → now.sink.held_back ≡ 0

@@ -1,9 +1,11 @@
 -- A line is decided on, and its turn is stored.
-use Rattle.std.proofs.Common.{◌≡◌, ℕ, Bool, true, false, List, [], ◌∷◌, ◌++◌, refl, ap, subst, sym, ◌∙◌, append-nil, rules}
+use Rattle.std.proofs.Common.{◌≡◌, ℕ, ◌+◌, ◌≤◌, arith, Bool, true, false, List, [], ◌∷◌, ◌++◌, refl, ap, subst, sym, ◌∙◌, append-nil, rules}
 use Rattle.std.specs.Prelude.{if◌then◌else◌, filter, replicate, IfOk, Option, None, Some, Result, Ok, Err}
 use Rattle.std.specs.Option.{IfSome, option_map_or}
 use Rattle.hac_core.specs.declared.drafts.Settled.{Settled}
 use Rattle.hac_core.specs.declared.drafts.Settled.TheVariants as settled
+use Rattle.hac_model.specs.Run.Costs.{answering_line}
+use Rattle.hac_model.specs.Tree.Costs.{costs}
 use Rattle.hac_model.specs.Run.Play.{MayFail, Setting, Turn, all_events, have_room, item_turn, next_place, nothing_given, refused_turn}
 use Rattle.hac_model.specs.Script.Lines.{Item}
 use Rattle.hac_model.specs.Tree.Events.{apply_all}
@@ -63,9 +65,10 @@ item-bare contents met setting item =
 
 module _ {D : Type 0} {seen : D → Option (List ℕ)} {image : D → List ℕ → Type 0} {moment : D → ℕ} {image_since : D → ℕ → List ℕ → Type 0} {attached : D → Option (List (List ℕ × Bool))} {faults : D → ℕ} where
   -- what was decided was stored
-  pub item-stored : (old new : D) (spaces left : SpacesSeen) (before after : Seen) (s : State) (item : Item) (decision : Decision) {result : Result Reply Status} → s ≡ before.setting.state → DecidesItem spaces left s item (Ok decision) →
-      StoresTurn seen image moment image_since attached faults old new before after (decided_turn before.setting decision) result → StoresItem seen image moment image_since attached faults old new spaces left before after item result
-  item-stored old new spaces left before after s item decision same decides stores =
+  pub item-stored : (old new : D) (spaces left : SpacesSeen) (before after : Seen) (s : State) (item : Item) (decision : Decision) {result : Result Reply Status} {probes mid now : ℕ} → s ≡ before.setting.state → DecidesItem spaces left s item (Ok decision) →
+      mid ≤ probes + answering_line s item → now ≤ mid + costs before.setting.state (decided_turn before.setting decision).events →
+      StoresTurn seen image moment image_since attached faults old new before after (decided_turn before.setting decision) result → StoresItem seen image moment image_since attached faults old new spaces left before after item probes now result
+  item-stored old new spaces left before after s item decision {result} {probes} {mid} {now} same decides asked asks stores =
       record {
         fault = decides.fault;
         asked = decides.asked;
@@ -73,6 +76,9 @@ module _ {D : Type 0} {seen : D → Option (List ℕ)} {image : D → List ℕ �
         bare = decided-bare before.setting decision (subst (λ (t : State). CanHappen t decision) same decides.happen);
         told = by spaces.contents (subst (λ (t : State). IfSome spaces.contents (λ c. Says t c)) same decides.told);
         stores = stores;
+        asks =
+            let answering : mid ≤ probes + answering_line before.setting.state item = subst (λ (t : State). mid ≤ probes + answering_line t item) same asked in
+            omega (arith, answering, asks);
       }
     where
       Says : State → Contents → Type 0
@@ -83,17 +89,20 @@ module _ {D : Type 0} {seen : D → Option (List ℕ)} {image : D → List ℕ �
       by (Some c) told = record { is = sym (told.1.leads before.setting refl); may = told.0 }
 
   -- memory ran out before
-  pub item-first : ((disk : D) (c : List ℕ) → image_since disk (moment disk) c → image disk c) → (disk : D) (spaces left : SpacesSeen) (store : Seen) (s : State) (item : Item) (result : Result Decision Memory) → s ≡ store.setting.state → DecidesItem spaces left s item result →
-      StoresItem seen image moment image_since attached faults disk disk spaces left store store item (Err status.Memory)
-  item-first only_now disk spaces left store s item result same decides = by spaces.contents refl
+  pub item-first : ((disk : D) (c : List ℕ) → image_since disk (moment disk) c → image disk c) → (disk : D) (spaces left : SpacesSeen) (store : Seen) (s : State) (item : Item) (result : Result Decision Memory) {probes now : ℕ} → s ≡ store.setting.state → DecidesItem spaces left s item result →
+      now ≤ probes + answering_line s item → StoresItem seen image moment image_since attached faults disk disk spaces left store store item probes now (Err status.Memory)
+  item-first only_now disk spaces left store s item result {probes} {now} same decides asked = by spaces.contents refl
     where
-      of : (turn : Turn) → IsBare store.setting turn → IfSome spaces.contents (λ c. IsTurnOf c decides.fault store.setting item turn) → StoresItem seen image moment image_since attached faults disk disk spaces left store store item (Err status.Memory)
-      of turn bare told = record { fault = decides.fault; asked = decides.asked; turn = turn; bare = bare; told = told; stores = stops-first only_now disk store turn }
+      answering : now ≤ probes + answering_line store.setting.state item
+      answering = subst (λ (t : State). now ≤ probes + answering_line t item) same asked
+
+      of : (turn : Turn) → IsBare store.setting turn → IfSome spaces.contents (λ c. IsTurnOf c decides.fault store.setting item turn) → StoresItem seen image moment image_since attached faults disk disk spaces left store store item probes now (Err status.Memory)
+      of turn bare told = record { fault = decides.fault; asked = decides.asked; turn = turn; bare = bare; told = told; stores = stops-first only_now disk store turn; asks = omega (arith, answering) }
 
       first : {P Q : Type 0} → P × Q → P
       first both = both.0
 
-      by : (o : Option Contents) → spaces.contents ≡ o → StoresItem seen image moment image_since attached faults disk disk spaces left store store item (Err status.Memory)
+      by : (o : Option Contents) → spaces.contents ≡ o → StoresItem seen image moment image_since attached faults disk disk spaces left store store item probes now (Err status.Memory)
       by None is = of (turn_with store.setting (Lines []) []) (record { own = refl; leads = refl }) (subst (λ (o : Option Contents). IfSome o (λ c. IsTurnOf c decides.fault store.setting item (turn_with store.setting (Lines []) []))) (sym is) (search rules))
       by (Some c) is =
           let turn = item_turn (given_by c (decides.fault ∷ []) 0) store.setting item in

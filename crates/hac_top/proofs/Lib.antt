@@ -16,5 +16,6 @@ pub mod OpenedLemmas
 pub mod OpeningLemmas
 pub mod AttachLemmas
 pub mod UnattachedLemmas
+pub mod CostLemmas
 pub mod CountsLemmas
 pub mod MakingLemmas

@@ -32,10 +32,10 @@ use Rattle.hac_top.specs.TakenLines.{GivesFrom, GivesTaken, LeavesSource, StopsI
 use Rattle.hac_top.specs.declared.status.Status.{Status}
 use Rattle.hac_top.specs.declared.status.Status.TheVariants.{Done, SomeRefused, ReadFault, WriteFault, DiskFault, Memory, TooLong}
 use Rattle.hac_top.specs.declared.taking.TakenLine.{TakenLine}
-use Rattle.hac_top.proofs.GoesOn.{Goes, IsPlayed, RunsOn, fresh_reader}
+use Rattle.hac_top.proofs.GoesOn.{IsPlayed, RunsOn, fresh_reader}
 use Rattle.hac_top.proofs.CrashLemmas.{all_events-append, answered-tree, holds-weaker, none-answered, tree-more, tree-then}
-use Rattle.hac_top.proofs.PlayedLemmas.{askable-all, faults-append, here-all, here-askable, here-goes, here-next, open-played, played-first, played-next}
-use Rattle.hac_top.proofs.RunLemmas.{answered-held, answered-so_far, answers-stop, left-end, line-stops, nothing-stops, played-behind, played-cut, played-end, played-stop, turns-are}
+use Rattle.hac_top.proofs.PlayedLemmas.{askable-all, asks-cut, asks-stop, faults-append, here-all, here-askable, here-goes, here-next, open-played, played-first, played-next}
+use Rattle.hac_top.proofs.RunLemmas.{answered-held, answered-so_far, answers-stop, goes-same, left-end, line-stops, nothing-stops, played-behind, played-cut, played-end, played-stop, turns-are}
 use Rattle.hac_top.proofs.StoringLemmas.{held-before, told-since}
 
 -- facts of bytes that a source may not tell
@@ -127,10 +127,10 @@ module _ {D : Type 0} {seen : D → Option (List ℕ)} {image : D → List ℕ �
         quiet = refl;
       })
     where
-      goes : (contents : Option Contents) (script : Option (List ℕ)) → IfSome contents (λ c. Known (λ s p. IsPlayed c [] tick store.setting s p false store.setting refused before.sink before.sink []) script (prepend_known [] script))
+      goes : (contents : Option Contents) (script : Option (List ℕ)) → IfSome contents (λ c. Known (λ s p. IsPlayed c [] tick store.setting s p false store.setting refused before before []) script (prepend_known [] script))
       goes None script = search rules
       goes (Some c) None = tt
-      goes (Some c) (Some s) = played-first c tick store.setting s refused before.sink unrefused
+      goes (Some c) (Some s) = played-first c tick store.setting s refused before unrefused
 
       total : (script : Option (List ℕ)) → SameTotal 0 script 0 script
       total None = tt
@@ -139,19 +139,19 @@ module _ {D : Type 0} {seen : D → Option (List ℕ)} {image : D → List ℕ �
   module _ {old mid : D} {tick : ℕ} {first : Setting} {before now : Outside} {spaces spaces_now : SpacesSeen} {reader : Reading} {store : Seen} {refused : Bool} (was : RunsOn seen image moment image_since attached faults old mid tick first before now spaces spaces_now reader store refused) where
     -- what is known of the script, and of what is left, where no line was taken
     stop-script : {left : Option (List ℕ)} (total : ℕ) (P : List ℕ → List ℕ → Type 0) (R : Contents → List ℕ → Type 0) →
-        ((c : Contents) (s p l : List ℕ) → Some l ≡ left → IsPlayed c was.met tick first s p reader.ended store.setting refused before.sink now.sink was.answered → P p l → total + length l ≡ 0 + length s → R c s) →
+        ((c : Contents) (s p l : List ℕ) → Some l ≡ left → IsPlayed c was.met tick first s p reader.ended store.setting refused before now was.answered → P p l → total + length l ≡ 0 + length s → R c s) →
         Known P (pending reader now.source.left) left → Known (λ s l. total + length l ≡ 0 + length s) before.source.left left → IfSome spaces.contents (λ c. IfSome before.source.left (R c))
     stop-script {left} total P R follows stops totals = by spaces.contents was.goes
       where
-        by : (o : Option Contents) → IfSome o (λ c. Known (λ s p. IsPlayed c was.met tick first s p reader.ended store.setting refused before.sink now.sink was.answered) before.source.left (pending reader now.source.left)) →
+        by : (o : Option Contents) → IfSome o (λ c. Known (λ s p. IsPlayed c was.met tick first s p reader.ended store.setting refused before now was.answered) before.source.left (pending reader now.source.left)) →
             IfSome o (λ c. IfSome before.source.left (R c))
         by None goes = search rules
         by (Some c) goes =
-            known-script (λ s p. IsPlayed c was.met tick first s p reader.ended store.setting refused before.sink now.sink was.answered) P (λ s l. total + length l ≡ 0 + length s) (R c)
+            known-script (λ s p. IsPlayed c was.met tick first s p reader.ended store.setting refused before now was.answered) P (λ s l. total + length l ≡ 0 + length s) (R c)
             before.source.left (pending reader now.source.left) left (follows c) goes stops totals
 
     -- a crash leaves the tree after some of the events of the script
-    all-moments : (c : Contents) (s p : List ℕ) → IsPlayed c was.met tick first s p reader.ended store.setting refused before.sink now.sink was.answered → Stands (seen old) (image old) first →
+    all-moments : (c : Contents) (s p : List ℕ) → IsPlayed c was.met tick first s p reader.ended store.setting refused before now was.answered → Stands (seen old) (image old) first →
         LeavesOnly moment image_since old mid (Holds (IsTreeOf (given_by c was.met tick) first s))
     all-moments c s p played stands =
         let given = given_by c was.met tick in
@@ -165,34 +165,35 @@ module _ {D : Type 0} {seen : D → Option (List ℕ)} {image : D → List ℕ �
         (was.moments stands)
 
     -- no line was taken
-    pub runs-stop : {source : SourceSeen} {new : Reading} {status : Status} → StopsTaking reader new now.source source status → PlaysStore seen image moment image_since attached faults old mid tick first before (outside source now.sink) spaces spaces_now status
+    pub runs-stop : {source : SourceSeen} {new : Reading} {status : Status} → StopsTaking reader new now.source source status → PlaysStore seen image moment image_since attached faults old mid tick first before (outside source now.sink now.probes) spaces spaces_now status
     runs-stop {source} {new} {status} stop =
         let kind = stops-source status stop.why in
         let takes = leaves-then (is_read_fault status) fresh_reader reader new before.source now.source source was.source stop.source in
         record {
           met = was.met;
           asked = was.asked;
-          askable = stop-script new.taken (StopsIn status) (λ c s. AreAskable (given_by c was.met tick) first (script s)) (λ c s p l _ played _ _. askable-all c tick first was.met s p reader.ended store.setting refused before.sink now.sink was.answered played) stop.stops takes.total;
+          askable = stop-script new.taken (StopsIn status) (λ c s. AreAskable (given_by c was.met tick) first (script s)) (λ c s p l _ played _ _. askable-all c tick first was.met s p reader.ended store.setting refused before now was.answered played) stop.stops takes.total;
           played =
-              stop-script new.taken (StopsIn status) (λ c s. Played false (given_by c was.met tick) status first s before (outside source now.sink) (Stands (seen old) (image old) first) (image mid))
+              stop-script new.taken (StopsIn status) (λ c s. Played false (given_by c was.met tick) status first s before (outside source now.sink now.probes) (Stands (seen old) (image old) first) (image mid))
               (λ c s p l left_is played stops total.
               let given = given_by c was.met tick in
               let none = given_by c [] tick in
               let goes = played.goes in
-              played-stop given none first (Stands (seen old) (image old) first) (image mid) status status s p l reader.ended store.setting refused before (outside source now.sink) goes left_is was.passed stops
+              played-stop given none first (Stands (seen old) (image old) first) (image mid) status status s p l reader.ended store.setting refused before (outside source now.sink now.probes) goes left_is was.passed stops
               (answers-stop given none first s p reader.ended store.setting refused before.sink now.sink goes status l new.taken stop.why stops stop.goes stop.past total)
+              (asks-stop c tick first was.met s p reader.ended store.setting refused before now was.answered played)
               (λ stands i left. answered-held given none first s p reader.ended store.setting refused before.sink now.sink goes i (stands-each (seen mid) (image mid) store.setting (was.stands stands) i left))
               (λ _ finished. absurd (kind.unfinished finished)))
               stop.stops takes.total;
           opened = kind.opened;
           moments = stop-script new.taken (StopsIn status) (λ c s. Stands (seen old) (image old) first → LeavesOnly moment image_since old mid (Holds (IsTreeOf (given_by c was.met tick) first s))) (λ c s p l _ played _ _. all-moments c s p played) stop.stops takes.total;
-          ends = ends-of status new before (outside source now.sink) takes (no-fault (is_write_fault status) before.sink.faults now.sink.faults kind.sink was.wrote) (λ _. was.passed);
+          ends = ends-of status new before (outside source now.sink now.probes) takes (no-fault (is_write_fault status) before.sink.faults now.sink.faults kind.sink was.wrote) (λ _. was.passed);
           names = was.names;
           reported = no-fault (is_disk_fault status) (faults old) (faults mid) kind.disk was.quiet;
         }
 
     -- the script has ended
-    pub runs-end : {source : SourceSeen} {new : Reading} → TakesLine reader new now.source source None → PlaysStore seen image moment image_since attached faults old mid tick first before (outside source now.sink) spaces spaces_now (finished_status refused)
+    pub runs-end : {source : SourceSeen} {new : Reading} → TakesLine reader new now.source source None → PlaysStore seen image moment image_since attached faults old mid tick first before (outside source now.sink now.probes) spaces spaces_now (finished_status refused)
     runs-end {source} {new} takes =
         let took = leaves-then false fresh_reader reader new before.source now.source source was.source takes.source in
         let nothing = λ (p l : List ℕ). (p ≡ []) × (new.buffered ++ l ≡ []) in
@@ -200,16 +201,17 @@ module _ {D : Type 0} {seen : D → Option (List ℕ)} {image : D → List ℕ �
         record {
           met = was.met;
           asked = was.asked;
-          askable = stop-script new.taken (λ p l. (p ≡ []) × (new.buffered ++ l ≡ [])) (λ c s. AreAskable (given_by c was.met tick) first (script s)) (λ c s p l _ played _ _. askable-all c tick first was.met s p reader.ended store.setting refused before.sink now.sink was.answered played) behind took.total;
+          askable = stop-script new.taken (λ p l. (p ≡ []) × (new.buffered ++ l ≡ [])) (λ c s. AreAskable (given_by c was.met tick) first (script s)) (λ c s p l _ played _ _. askable-all c tick first was.met s p reader.ended store.setting refused before now was.answered played) behind took.total;
           played =
-              stop-script new.taken (λ p l. (p ≡ []) × (new.buffered ++ l ≡ [])) (λ c s. Played false (given_by c was.met tick) (finished_status refused) first s before (outside source now.sink) (Stands (seen old) (image old) first) (image mid))
+              stop-script new.taken (λ p l. (p ≡ []) × (new.buffered ++ l ≡ [])) (λ c s. Played false (given_by c was.met tick) (finished_status refused) first s before (outside source now.sink now.probes) (Stands (seen old) (image old) first) (image mid))
               (λ c s p l left_is played none total.
-              played-end (given_by c was.met tick) (given_by c [] tick) first (Stands (seen old) (image old) first) (image mid) s p l new.buffered new.taken reader.ended store.setting refused before (outside source now.sink) played.goes left_is was.passed none total takes.advances
+              played-end (given_by c was.met tick) (given_by c [] tick) first (Stands (seen old) (image old) first) (image mid) s p l new.buffered new.taken reader.ended store.setting refused before (outside source now.sink now.probes) played.goes left_is was.passed none total takes.advances
+              (asks-stop c tick first was.met s p reader.ended store.setting refused before now was.answered played)
               (λ stands. stands-each (seen mid) (image mid) store.setting (was.stands stands)))
               behind took.total;
           opened = (finished-facts refused).1;
           moments = stop-script new.taken (λ p l. (p ≡ []) × (new.buffered ++ l ≡ [])) (λ c s. Stands (seen old) (image old) first → LeavesOnly moment image_since old mid (Holds (IsTreeOf (given_by c was.met tick) first s))) (λ c s p l _ played _ _. all-moments c s p played) behind took.total;
-          ends = ends-finished refused new before (outside source now.sink) took was.wrote was.passed;
+          ends = ends-finished refused new before (outside source now.sink now.probes) took was.wrote was.passed;
           names = was.names;
           reported = no-fault (is_disk_fault (finished_status refused)) (faults old) (faults mid) (finished-facts refused).0 was.quiet;
         }
@@ -224,17 +226,17 @@ module _ {D : Type 0} {seen : D → Option (List ℕ)} {image : D → List ℕ �
         (leaves-then false fresh_reader reader new before.source now.source source was.source takes.source).total
 
     pub on-end : {source : SourceSeen} {new : Reading} → TakesLine reader new now.source source None →
-        PlaysOn seen image moment image_since attached faults old mid tick first before (outside source now.sink) spaces spaces_now (Ok refused) store.setting
+        PlaysOn seen image moment image_since attached faults old mid tick first before (outside source now.sink now.probes) spaces spaces_now (Ok refused) store.setting
     unfolding runs-end
     on-end takes = record { plays = runs-end takes; leaves = runs-left takes; stops = search rules }
 
     pub on-stop : {source : SourceSeen} {new : Reading} {status : Status} {kept : Setting} → StopsTaking reader new now.source source status →
-        PlaysOn seen image moment image_since attached faults old mid tick first before (outside source now.sink) spaces spaces_now (Err status) kept
+        PlaysOn seen image moment image_since attached faults old mid tick first before (outside source now.sink now.probes) spaces spaces_now (Err status) kept
     on-stop {source} {new} {status} {kept} stop = record { plays = runs-stop stop; leaves = search rules; stops = (stops-source status stop.why).unfinished }
 
     -- a line was taken, and its turns are in hand
-    module _ {source : SourceSeen} {next : Reading} {line : TakenLine} (takes : TakesLine reader next now.source source (Some line)) {left : SpacesSeen} (more : List (Option (List ℕ))) (asks : HaveAsked spaces_now left more) (here : List Turn) (few : length here ≤ 1)
-        (leads : stored (left_by store.setting here).state ≡ apply_all (stored store.setting.state) (all_events here)) (told : IfSome spaces_now.contents (λ c. AreTurns c more tick store.setting (items_of_taken line) here)) where
+    module _ {source : SourceSeen} {next : Reading} {line : TakenLine} (takes : TakesLine reader next now.source source (Some line)) {left : SpacesSeen} (more : List (Option (List ℕ))) (asks : HaveAsked spaces_now left more) (here : List Turn) (probes : ℕ) (few : length here ≤ 1)
+        (leads : stored (left_by store.setting here).state ≡ apply_all (stored store.setting.state) (all_events here)) (told : IfSome spaces_now.contents (λ c. AreTurns c more tick store.setting (items_of_taken line) here now.probes probes)) where
       all-asked : HaveAsked spaces left (was.met ++ more)
       all-asked = record {
         stay = record {
@@ -247,17 +249,17 @@ module _ {D : Type 0} {seen : D → Option (List ℕ)} {image : D → List ℕ �
 
       -- what is known of the script then, and of what is left
       given-script : (R : Contents → List ℕ → Type 0) →
-          ((c : Contents) (s p l : List ℕ) → Some l ≡ source.left → IsPlayed c was.met tick first s p false store.setting refused before.sink now.sink was.answered → GivesTaken line next.ended p (next.buffered ++ l) → AreTurns c more tick store.setting (items_of_taken line) here → R c s) →
+          ((c : Contents) (s p l : List ℕ) → Some l ≡ source.left → IsPlayed c was.met tick first s p false store.setting refused before now was.answered → GivesTaken line next.ended p (next.buffered ++ l) → AreTurns c more tick store.setting (items_of_taken line) here now.probes probes → R c s) →
           IfSome spaces.contents (λ c. IfSome before.source.left (R c))
-      given-script R follows = by spaces.contents was.goes (subst (λ (o : Option Contents). IfSome o (λ c. AreTurns c more tick store.setting (items_of_taken line) here)) was.asked.stay.contents told)
+      given-script R follows = by spaces.contents was.goes (subst (λ (o : Option Contents). IfSome o (λ c. AreTurns c more tick store.setting (items_of_taken line) here now.probes probes)) was.asked.stay.contents told)
         where
-          by : (o : Option Contents) → IfSome o (λ c. Known (λ s p. IsPlayed c was.met tick first s p reader.ended store.setting refused before.sink now.sink was.answered) before.source.left (pending reader now.source.left)) →
-              IfSome o (λ c. AreTurns c more tick store.setting (items_of_taken line) here) → IfSome o (λ c. IfSome before.source.left (R c))
+          by : (o : Option Contents) → IfSome o (λ c. Known (λ s p. IsPlayed c was.met tick first s p reader.ended store.setting refused before now was.answered) before.source.left (pending reader now.source.left)) →
+              IfSome o (λ c. AreTurns c more tick store.setting (items_of_taken line) here now.probes probes) → IfSome o (λ c. IfSome before.source.left (R c))
           by None goes are = search rules
           by (Some c) goes are =
-              known-script (λ s p. IsPlayed c was.met tick first s p reader.ended store.setting refused before.sink now.sink was.answered) (λ p l. GivesFrom (Some line) next.ended p (next.buffered ++ l)) (λ s l. next.taken + length l ≡ 0 + length s) (R c)
+              known-script (λ s p. IsPlayed c was.met tick first s p reader.ended store.setting refused before now was.answered) (λ p l. GivesFrom (Some line) next.ended p (next.buffered ++ l)) (λ s l. next.taken + length l ≡ 0 + length s) (R c)
               before.source.left (pending reader now.source.left) source.left
-              (λ s p l left_is played gives total. follows c s p l left_is (open-played c tick first was.met s p reader.ended store.setting refused before.sink now.sink was.answered played line next.ended (next.buffered ++ l) gives) gives are)
+              (λ s p l left_is played gives total. follows c s p l left_is (open-played c tick first was.met s p reader.ended store.setting refused before now was.answered played line next.ended (next.buffered ++ l) gives) gives are)
               goes (known-behind (GivesFrom (Some line) next.ended) (pending reader now.source.left) source.left next.buffered takes.given)
               (leaves-then false fresh_reader reader next before.source now.source source was.source takes.source).total
 
@@ -280,7 +282,7 @@ module _ {D : Type 0} {seen : D → Option (List ℕ)} {image : D → List ℕ �
 
       -- it was answered
       pub runs-next : {new : D} {sink : SinkSeen} {after : Seen} {refused_now : Bool} → AnswersLine seen image moment image_since attached faults mid new store after now.sink sink here →
-          refused_now ≡ (refused || has_refusal here) → RunsOn seen image moment image_since attached faults old new tick first before (outside source sink) spaces left next after refused_now
+          refused_now ≡ (refused || has_refusal here) → RunsOn seen image moment image_since attached faults old new tick first before (outside source sink probes) spaces left next after refused_now
       runs-next {new} {sink} {after} {refused_now} answers is =
           record {
             met = was.met ++ more;
@@ -289,7 +291,7 @@ module _ {D : Type 0} {seen : D → Option (List ℕ)} {image : D → List ℕ �
             leads =
                 ap (λ (z : Setting). stored z.state) answers.setting ∙ leads ∙ ap (λ (s : State). apply_all s (all_events here)) was.leads ∙ sym (apply_all-append (all_events was.answered) (all_events here) (stored first.state))
                 ∙ ap (apply_all (stored first.state)) (sym (all_events-append was.answered here));
-            goes = goes_by spaces.contents was.goes (subst (λ (o : Option Contents). IfSome o (λ c. AreTurns c more tick store.setting (items_of_taken line) here)) was.asked.stay.contents told);
+            goes = goes_by spaces.contents was.goes (subst (λ (o : Option Contents). IfSome o (λ c. AreTurns c more tick store.setting (items_of_taken line) here now.probes probes)) was.asked.stay.contents told);
             reads = takes.reader;
             source = leaves-then false fresh_reader reader next before.source now.source source was.source takes.source;
             passed = λ none. answers.replies.passed (was.passed none);
@@ -302,19 +304,19 @@ module _ {D : Type 0} {seen : D → Option (List ℕ)} {image : D → List ℕ �
             quiet = answers.stores.reported ∙ was.quiet;
           }
         where
-          goes_by : (o : Option Contents) → IfSome o (λ c. Known (λ s p. IsPlayed c was.met tick first s p reader.ended store.setting refused before.sink now.sink was.answered) before.source.left (pending reader now.source.left)) →
-              IfSome o (λ c. AreTurns c more tick store.setting (items_of_taken line) here) →
-              IfSome o (λ c. Known (λ s q. IsPlayed c (was.met ++ more) tick first s q next.ended after.setting refused_now before.sink sink (was.answered ++ here)) before.source.left (pending next source.left))
+          goes_by : (o : Option Contents) → IfSome o (λ c. Known (λ s p. IsPlayed c was.met tick first s p reader.ended store.setting refused before now was.answered) before.source.left (pending reader now.source.left)) →
+              IfSome o (λ c. AreTurns c more tick store.setting (items_of_taken line) here now.probes probes) →
+              IfSome o (λ c. Known (λ s q. IsPlayed c (was.met ++ more) tick first s q next.ended after.setting refused_now before (outside source sink probes) (was.answered ++ here)) before.source.left (pending next source.left))
           goes_by None goes are = search rules
           goes_by (Some c) goes are =
-              known-joined (λ s p. IsPlayed c was.met tick first s p reader.ended store.setting refused before.sink now.sink was.answered) (GivesFrom (Some line) next.ended)
-              (λ s q. IsPlayed c (was.met ++ more) tick first s q next.ended after.setting refused_now before.sink sink (was.answered ++ here))
+              known-joined (λ s p. IsPlayed c was.met tick first s p reader.ended store.setting refused before now was.answered) (GivesFrom (Some line) next.ended)
+              (λ s q. IsPlayed c (was.met ++ more) tick first s q next.ended after.setting refused_now before (outside source sink probes) (was.answered ++ here))
               before.source.left (pending reader now.source.left) (pending next source.left)
               (λ s p q played gives.
-              subst (λ (z : Setting). IsPlayed c (was.met ++ more) tick first s q next.ended z refused_now before.sink sink (was.answered ++ here)) (sym answers.setting)
-              (subst (λ (b : Bool). IsPlayed c (was.met ++ more) tick first s q next.ended (left_by store.setting here) b before.sink sink (was.answered ++ here)) (sym is)
-              (played-next c tick first was.met more s p q store.setting refused before.sink now.sink was.answered here (open-played c tick first was.met s p reader.ended store.setting refused before.sink now.sink was.answered played line next.ended q gives)
-              line next.ended gives are sink answers.replies.written)))
+              subst (λ (z : Setting). IsPlayed c (was.met ++ more) tick first s q next.ended z refused_now before (outside source sink probes) (was.answered ++ here)) (sym answers.setting)
+              (subst (λ (b : Bool). IsPlayed c (was.met ++ more) tick first s q next.ended (left_by store.setting here) b before (outside source sink probes) (was.answered ++ here)) (sym is)
+              (played-next c tick first was.met more s p q store.setting refused before now probes was.answered here (open-played c tick first was.met s p reader.ended store.setting refused before now was.answered played line next.ended q gives)
+              line next.ended gives are source sink answers.replies.written)))
               goes takes.given
 
       -- what is known of the events of a command is known of its turn
@@ -335,21 +337,21 @@ module _ {D : Type 0} {seen : D → Option (List ℕ)} {image : D → List ℕ �
       module _ (counts_now : (disk : D) (t : ℕ) (c : List ℕ) → t ≤ moment disk → image disk c → image_since disk t c) {new : D} {sink : SinkSeen} where
         cut-with : (status : Status) → Stores seen image moment image_since attached faults mid new store.setting (all_events here) (is_disk_fault status) → IsOpenStatus status →
             is_read_fault status ≡ false → ReportsFault (is_write_fault status) before.sink.faults sink.faults → ((status ≡ WriteFault → ⊥) → before.sink.held_back ≡ 0 → sink.held_back ≡ 0) →
-            IfSome spaces.contents (λ c. IfSome before.source.left (λ s. Played false (given_by c (was.met ++ more) tick) status first s before (outside source sink) (Stands (seen old) (image old) first) (image new))) →
-            PlaysStore seen image moment image_since attached faults old new tick first before (outside source sink) spaces left status
+            IfSome spaces.contents (λ c. IfSome before.source.left (λ s. Played false (given_by c (was.met ++ more) tick) status first s before (outside source sink probes) (Stands (seen old) (image old) first) (image new))) →
+            PlaysStore seen image moment image_since attached faults old new tick first before (outside source sink probes) spaces left status
         cut-with status stores opened reads writes passed played =
             record {
               opened = opened;
               met = was.met ++ more;
               asked = all-asked;
               askable = given-script (λ c s. AreAskable (given_by c (was.met ++ more) tick) first (script s))
-                  (λ c s p l _ played gives are. here-askable c tick first was.met more s p (next.buffered ++ l) store.setting refused before.sink now.sink was.answered here played line next.ended gives are);
+                  (λ c s p l _ played gives are. here-askable c tick first was.met more s p (next.buffered ++ l) store.setting refused before now probes was.answered here played line next.ended gives are);
               played = played;
               moments = given-script (λ c s. Stands (seen old) (image old) first → LeavesOnly moment image_since old new (Holds (IsTreeOf (given_by c (was.met ++ more) tick) first s)))
                   (λ c s p l _ played gives are stands.
                   let given = given_by c (was.met ++ more) tick in
                   let rest = play (given_after (given_by c more tick) here) (left_by store.setting here) (next.buffered ++ l) in
-                  let all = here-all c tick first was.met more s p (next.buffered ++ l) store.setting refused before.sink now.sink was.answered here played line next.ended gives are in
+                  let all = here-all c tick first was.met more s p (next.buffered ++ l) store.setting refused before now probes was.answered here played line next.ended gives are in
                   let so_far = IsTreeAfter (stored first.state) (all_events (was.answered ++ here)) in
                   weaken moment image_since old new (Holds so_far) (Holds (IsTreeOf given first s))
                   (λ i holds.
@@ -359,7 +361,7 @@ module _ {D : Type 0} {seen : D → Option (List ℕ)} {image : D → List ℕ �
                   (tree-more (stored first.state) t (all_events (was.answered ++ here)) (all_events rest) tree)) holds)
                   (line-moments new stores.moments stands));
               ends =
-                  ends-of status next before (outside source sink)
+                  ends-of status next before (outside source sink probes)
                   (subst (λ (b : Bool). LeavesSource b fresh_reader next before.source source) (sym reads) (leaves-then false fresh_reader reader next before.source now.source source was.source takes.source)) writes passed;
               names = stores.names ∙ was.names;
               reported = told-since (is_disk_fault status) (faults old) (faults mid) (faults new) was.quiet stores.reported;
@@ -367,61 +369,64 @@ module _ {D : Type 0} {seen : D → Option (List ℕ)} {image : D → List ℕ �
 
         -- none of its reply was written
         cut-before : (status : Status) → StopsReply seen image moment image_since attached faults mid new store.setting now.sink sink here status → sink ≡ now.sink → IsOpenStatus status → is_read_fault status ≡ false → is_write_fault status ≡ false →
-            ((given : Given) (s left : List ℕ) (done : ℕ) → AnswersBy given status first s done (Some left)) → (IsFinished status → ⊥) → PlaysStore seen image moment image_since attached faults old new tick first before (outside source sink) spaces left status
+            ((given : Given) (s left : List ℕ) (done : ℕ) → AnswersBy given status first s done (Some left)) → (IsFinished status → ⊥) → PlaysStore seen image moment image_since attached faults old new tick first before (outside source sink probes) spaces left status
         cut-before status stop same opened reads writes answers unfinished =
             let passed : before.sink.held_back ≡ 0 → sink.held_back ≡ 0 = λ none. ap (λ (k : SinkSeen). k.held_back) same ∙ was.passed none in
             let now_is = stored store.setting.state in
             cut-with status (stores-wider new (is_disk_fault status) stop.stores) opened reads (no-fault (is_write_fault status) before.sink.faults sink.faults writes (ap (λ (k : SinkSeen). k.faults) same ∙ was.wrote)) (λ _. passed)
-            (given-script (λ c s. Played false (given_by c (was.met ++ more) tick) status first s before (outside source sink) (Stands (seen old) (image old) first) (image new))
+            (given-script (λ c s. Played false (given_by c (was.met ++ more) tick) status first s before (outside source sink probes) (Stands (seen old) (image old) first) (image new))
             (λ c s p l left_is played gives are.
             let given = given_by c (was.met ++ more) tick in
             let later = given_by c more tick in
-            let goes_on = subst (λ (k : SinkSeen). Goes (given_by c (was.met ++ more) tick) (given_by c more tick) first s p false store.setting refused before.sink k) (sym same)
-            (here-goes c tick first was.met more s p (next.buffered ++ l) store.setting refused before.sink now.sink was.answered here played line next.ended gives are) in
-            played-stop given later first (Stands (seen old) (image old) first) (image new) status Memory s p l false store.setting refused before (outside source sink) goes_on left_is
+            let goes_on = goes-same given later first s p false store.setting refused before.sink now.sink sink
+            (here-goes c tick first was.met more s p (next.buffered ++ l) store.setting refused before now probes was.answered here played line next.ended gives are) same in
+            played-stop given later first (Stands (seen old) (image old) first) (image new) status Memory s p l false store.setting refused before (outside source sink probes) goes_on left_is
             passed (line-stops line next.ended p next.buffered l gives takes.advances.near) (answers given s l _)
+            (λ n done. asks-cut c tick first was.met more s p (next.buffered ++ l) store.setting refused before now probes was.answered here played line next.ended gives are n few done)
             (λ stands i left_now.
             let run = stop.stores.moments (was.stands stands) in
             answered-so_far given later first s p false store.setting refused before.sink sink goes_on here (play (given_after later here) (left_by store.setting here) (next.buffered ++ l))
-            (here-next c tick first was.met more s p (next.buffered ++ l) store.setting refused before.sink now.sink was.answered here played line next.ended gives are) i
+            (here-next c tick first was.met more s p (next.buffered ++ l) store.setting refused before now probes was.answered here played line next.ended gives are) i
             (holds-weaker (IsTreeAfter now_is (command_events here)) (IsTreeOfAnswered now_is here 0) i (λ t tree. none-answered now_is t here few tree)
             (run.each i (counts_now new (moment mid) i run.later left_now))))
             (λ _ finished. absurd (unfinished finished))))
 
         -- all of its reply was written
         cut-behind : (status : Status) → StopsBehind seen image moment image_since attached faults mid new store.setting now.sink sink here status → IsOpenStatus status → is_read_fault status ≡ false → is_write_fault status ≡ false →
-            ((given : Given) (s left : List ℕ) (done : ℕ) → AnswersBy given status first s done (Some left)) → (IsFinished status → ⊥) → PlaysStore seen image moment image_since attached faults old new tick first before (outside source sink) spaces left status
+            ((given : Given) (s left : List ℕ) (done : ℕ) → AnswersBy given status first s done (Some left)) → (IsFinished status → ⊥) → PlaysStore seen image moment image_since attached faults old new tick first before (outside source sink probes) spaces left status
         cut-behind status stop opened reads writes answers unfinished =
             let passed : before.sink.held_back ≡ 0 → sink.held_back ≡ 0 = λ none. stop.replies.passed (was.passed none) in
             cut-with status stop.stores opened reads (no-fault (is_write_fault status) before.sink.faults sink.faults writes (stop.replies.faults ∙ was.wrote)) (λ _. passed)
-            (given-script (λ c s. Played false (given_by c (was.met ++ more) tick) status first s before (outside source sink) (Stands (seen old) (image old) first) (image new))
+            (given-script (λ c s. Played false (given_by c (was.met ++ more) tick) status first s before (outside source sink probes) (Stands (seen old) (image old) first) (image new))
             (λ c s p l left_is played gives are.
             let given = given_by c (was.met ++ more) tick in
             let later = given_by c more tick in
-            played-behind given later first (Stands (seen old) (image old) first) (image new) status s p l next.buffered line next.ended store.setting refused now.sink before (outside source sink)
-            (here-goes c tick first was.met more s p (next.buffered ++ l) store.setting refused before.sink now.sink was.answered here played line next.ended gives are) left_is passed gives takes.advances.near
+            played-behind given later first (Stands (seen old) (image old) first) (image new) status s p l next.buffered line next.ended store.setting refused now.sink before (outside source sink probes)
+            (here-goes c tick first was.met more s p (next.buffered ++ l) store.setting refused before now probes was.answered here played line next.ended gives are) left_is passed gives takes.advances.near
+            (λ n done. asks-cut c tick first was.met more s p (next.buffered ++ l) store.setting refused before now probes was.answered here played line next.ended gives are n few done)
             (subst (λ (ts : List Turn). Appends now.sink.written sink.written (turns_text ts)) are.are stop.replies.written) (answers given s l) unfinished
             (λ stands i left_now. subst (λ (ts : List Turn). Holds (IsTreeOfAnswered (stored store.setting.state) ts (length ts)) i) are.are (stop.left (was.stands stands) i left_now))))
 
-        reply-by : (status : Status) → StopsReply seen image moment image_since attached faults mid new store.setting now.sink sink here status → PlaysStore seen image moment image_since attached faults old new tick first before (outside source sink) spaces left status
+        reply-by : (status : Status) → StopsReply seen image moment image_since attached faults mid new store.setting now.sink sink here status → PlaysStore seen image moment image_since attached faults old new tick first before (outside source sink probes) spaces left status
         reply-by WriteFault stop =
             cut-with WriteFault (stores-wider new false stop.stores) tt refl (told-since true before.sink.faults now.sink.faults sink.faults was.wrote stop.replies.1) (λ other. absurd (other refl))
-            (given-script (λ c s. Played false (given_by c (was.met ++ more) tick) WriteFault first s before (outside source sink) (Stands (seen old) (image old) first) (image new))
+            (given-script (λ c s. Played false (given_by c (was.met ++ more) tick) WriteFault first s before (outside source sink probes) (Stands (seen old) (image old) first) (image new))
             (λ c s p l left_is played gives are.
-            played-cut (given_by c (was.met ++ more) tick) (given_by c more tick) first (Stands (seen old) (image old) first) (image new) s p l next.buffered line next.ended store.setting refused now.sink before (outside source sink)
-            (here-goes c tick first was.met more s p (next.buffered ++ l) store.setting refused before.sink now.sink was.answered here played line next.ended gives are) left_is was.passed gives takes.advances.near
+            played-cut (given_by c (was.met ++ more) tick) (given_by c more tick) first (Stands (seen old) (image old) first) (image new) s p l next.buffered line next.ended store.setting refused now.sink before (outside source sink probes)
+            (here-goes c tick first was.met more s p (next.buffered ++ l) store.setting refused before now probes was.answered here played line next.ended gives are) left_is was.passed gives takes.advances.near
+            (λ n done. asks-cut c tick first was.met more s p (next.buffered ++ l) store.setting refused before now probes was.answered here played line next.ended gives are n few done)
             (subst (λ (ts : List Turn). WritesSome now.sink sink (turns_text ts)) are.are stop.replies.0)
             (λ stands i left_now. subst (λ (ts : List Turn). Holds (λ now. now ≡ apply_all (stored store.setting.state) (command_events ts)) i) are.are (stop.stored refl (was.stands stands) i left_now))))
         reply-by DiskFault stop = cut-before DiskFault stop stop.replies tt refl refl (λ given s left done. tt) (λ never. never)
         reply-by Memory stop = cut-before Memory stop stop.replies tt refl refl (λ given s left done. tt) (λ never. never)
         reply-by other stop = absurd stop.replies
 
-        behind-by : (status : Status) → StopsBehind seen image moment image_since attached faults mid new store.setting now.sink sink here status → PlaysStore seen image moment image_since attached faults old new tick first before (outside source sink) spaces left status
+        behind-by : (status : Status) → StopsBehind seen image moment image_since attached faults mid new store.setting now.sink sink here status → PlaysStore seen image moment image_since attached faults old new tick first before (outside source sink probes) spaces left status
         behind-by DiskFault stop = cut-behind DiskFault stop tt refl refl (λ given s left done. tt) (λ never. never)
         behind-by Memory stop = cut-behind Memory stop tt refl refl (λ given s left done. tt) (λ never. never)
         behind-by other stop = absurd stop.why
 
-        pub runs-cut : {status : Status} → StopsAnswer seen image moment image_since attached faults mid new store.setting now.sink sink here status → PlaysStore seen image moment image_since attached faults old new tick first before (outside source sink) spaces left status
+        pub runs-cut : {status : Status} → StopsAnswer seen image moment image_since attached faults mid new store.setting now.sink sink here status → PlaysStore seen image moment image_since attached faults old new tick first before (outside source sink probes) spaces left status
         runs-cut {status} (inl stop) = reply-by status stop
         runs-cut {status} (inr stop) = behind-by status stop
 
@@ -433,5 +438,5 @@ module _ {D : Type 0} {seen : D → Option (List ℕ)} {image : D → List ℕ �
         unfinished other stop finished = finished
 
         pub on-cut : {status : Status} {kept : Setting} → StopsAnswer seen image moment image_since attached faults mid new store.setting now.sink sink here status →
-            PlaysOn seen image moment image_since attached faults old new tick first before (outside source sink) spaces left (Err status) kept
+            PlaysOn seen image moment image_since attached faults old new tick first before (outside source sink probes) spaces left (Err status) kept
         on-cut {status} {kept} stop = record { plays = runs-cut stop; leaves = search rules; stops = unfinished status stop }

@@ -1,5 +1,5 @@
 -- A script that is drawn from a number is played, and what it left is told.
-use Rattle.std.proofs.Common.{◌≡◌, ◌∙◌, ℕ, Bool, true, false, true≢false, ◌≤◌, List, Option, None, Some, refl, sym, ap, subst, arith, rules}
+use Rattle.std.proofs.Common.{◌≡◌, ◌∙◌, ℕ, ◌+◌, Bool, true, false, true≢false, ◌≤◌, List, Option, None, Some, refl, sym, ap, subst, arith, rules}
 use Rattle.std.specs.Prelude.{Result, Ok, Err, IfOk, IfErr, OnOk, is_some}
 use Rattle.std.specs.Option.{IfSome}
 use Rattle.hac_outside.specs.Causes.{ReportsFault, Rose}
@@ -9,6 +9,7 @@ use Rattle.hac_model.specs.Script.CommandLine.{Options}
 use Rattle.hac_model.specs.Script.Generator.{generated}
 use Rattle.hac_model.specs.declared.states.State.{State}
 use Rattle.hac_store.specs.Held.{held}
+use Rattle.hac_store.specs.Loading.{loading}
 use Rattle.sem_mounts.specs.Seen.{Contents, SpacesSeen}
 use Rattle.hac_top.specs.Asking.{IfTold, given_by}
 use Rattle.hac_top.specs.Crashes.{IsOpened, StopsOpening, opening_outcome}
@@ -16,7 +17,7 @@ use Rattle.hac_top.specs.Devices.{ScriptLeft, seen_of_nothing, seen_of_script}
 use Rattle.hac_top.specs.Ends.{IsFinished, IsOpenStatus, end_status, finished_status, is_bad_space, is_disk_fault, is_read_fault, is_write_fault}
 use Rattle.hac_top.specs.Making.{IfMakes, Makes, MakesStore, PlaysMade, Tells, TellsEnd, TellsLeft, counts_text}
 use Rattle.hac_top.specs.Replies.{StopsWriting, WritesAll}
-use Rattle.hac_top.specs.Run.{Ends, IfOpened, IsFaultless, Outside, PlaysOn, Ran, outside}
+use Rattle.hac_top.specs.Run.{Ends, IfOpened, IsFaultless, Outside, PlaysOn, Ran, once_open, outside}
 use Rattle.hac_top.specs.declared.status.Status.{Status}
 use Rattle.hac_top.specs.declared.status.Status.TheVariants.{Done, SomeRefused, WriteFault, Memory}
 use Rattle.hac_disk.specs.Contents.{IsSettled}
@@ -30,8 +31,8 @@ use Rattle.hac_top.proofs.UnattachedLemmas.{IsUnattached, ran-more, ran-unattach
 -- ---- the devices of a drawn script
 
 -- a source that has given nothing yet, and a sink that keeps nothing
-abbrev pub own_outside : ℕ → Outside
-own_outside number = outside (seen_of_script (record { left = generated number; ended = false })) seen_of_nothing
+abbrev pub own_outside : ℕ → ℕ → Outside
+own_outside number probes = outside (seen_of_script (record { left = generated number; ended = false })) seen_of_nothing probes
 
 -- a device that didn't fail reports no fault
 no-fault : (failed : Bool) (before now : ℕ) → ReportsFault failed before now → now ≡ before → (Rose before before → ⊥) → failed ≡ false
@@ -142,33 +143,35 @@ ends-of (Err stop) told s before after opened unread unwritten left =
 
 module _ {D : Type 0} {seen : D → Option (List ℕ)} {image : D → List ℕ → Type 0} {moment : D → ℕ} {image_since : D → ℕ → List ℕ → Type 0} {attached : D → Option (List (List ℕ × Bool))} {faults : D → ℕ} where
   -- a script was played by devices of its own
-  pub made-by : {old new : D} {tick : ℕ} {setting : Setting} {number : ℕ} {spaces left : SpacesSeen} {result : Result Bool Status} {kept : Setting} (first last : ScriptLeft) → first.left ≡ generated number →
-      PlaysOn seen image moment image_since attached faults old new tick setting (outside (seen_of_script first) seen_of_nothing) (outside (seen_of_script last) seen_of_nothing) spaces left result kept →
-      PlaysMade seen image moment image_since attached faults old new tick setting number spaces left result kept
-  made-by {old} {new} {tick} {setting} {number} {spaces} {left} {result} {kept} first last is on = record {
-    own = outside (seen_of_script first) seen_of_nothing;
-    own_after = outside (seen_of_script last) seen_of_nothing;
+  pub made-by : {old new : D} {tick : ℕ} {setting : Setting} {number : ℕ} {spaces left : SpacesSeen} {probes probes_now : ℕ} {result : Result Bool Status} {kept : Setting} (first last : ScriptLeft) → first.left ≡ generated number →
+      PlaysOn seen image moment image_since attached faults old new tick setting (outside (seen_of_script first) seen_of_nothing probes) (outside (seen_of_script last) seen_of_nothing probes_now) spaces left result kept →
+      PlaysMade seen image moment image_since attached faults old new tick setting number spaces left probes probes_now result kept
+  made-by {old} {new} {tick} {setting} {number} {spaces} {left} {probes} {probes_now} {result} {kept} first last is on = record {
+    own = outside (seen_of_script first) seen_of_nothing probes;
+    own_after = outside (seen_of_script last) seen_of_nothing probes_now;
     script_is = ap (λ (bytes : List ℕ). Some bytes) is;
     reads = refl;
     writes = refl;
+    begins = refl;
+    asks = omega arith;
     unread = no-fault (is_read_fault (end_status result)) 0 0 on.plays.ends.reads refl never-rose;
     unwritten = no-fault (is_write_fault (end_status result)) 0 0 on.plays.ends.writes refl never-rose;
     on = on;
   }
 
   -- there was no memory for the script
-  pub made-none : ((disk : D) (c : List ℕ) → image_since disk (moment disk) c → image disk c) → (disk : D) (tick number : ℕ) (spaces : SpacesSeen) (store : Seen) (refused : Bool) → refused ≡ false → store.broken ≡ false → Bears (seen disk) store →
-      PlaysMade seen image moment image_since attached faults disk disk tick store.setting number spaces spaces (Err Memory) store.setting
-  made-none only_now disk tick number spaces store refused begun intact place =
+  pub made-none : ((disk : D) (c : List ℕ) → image_since disk (moment disk) c → image disk c) → (disk : D) (tick number probes : ℕ) (spaces : SpacesSeen) (store : Seen) (refused : Bool) → refused ≡ false → store.broken ≡ false → Bears (seen disk) store →
+      PlaysMade seen image moment image_since attached faults disk disk tick store.setting number spaces spaces probes probes (Err Memory) store.setting
+  made-none only_now disk tick number probes spaces store refused begun intact place =
       let first : ScriptLeft = record { left = generated number; ended = false } in
       made-by first first refl
-      (on-stop (runs-begin only_now disk tick (own_outside number) spaces fresh_reader store refused refl refl begun intact place) (stops-unread (seen_of_script first)))
+      (on-stop (runs-begin only_now disk tick (own_outside number probes) spaces fresh_reader store refused refl refl begun intact place) (stops-unread (seen_of_script first)))
 
   -- and then what it left was told
-  pub makes-store : {old new : D} {tick : ℕ} {setting : Setting} {number : ℕ} {spaces left : SpacesSeen} {played : Result Bool Status} (told : Result Bool Status) {kept : Setting} {before after : SinkSeen} →
-      PlaysMade seen image moment image_since attached faults old new tick setting number spaces left played kept → TellsLeft played told kept.state before after →
-      MakesStore seen image moment image_since attached faults old new tick setting number before after spaces left (end_status told)
-  makes-store {old} {new} {tick} {setting} {number} {spaces} {left} {played} told {kept} {before} {after} made tells =
+  pub makes-store : {old new : D} {tick : ℕ} {setting : Setting} {number : ℕ} {spaces left : SpacesSeen} {probes mid now : ℕ} {played : Result Bool Status} (told : Result Bool Status) {kept : Setting} {before after : SinkSeen} →
+      PlaysMade seen image moment image_since attached faults old new tick setting number spaces left probes mid played kept → TellsLeft played told kept.state before after → now ≤ mid →
+      MakesStore seen image moment image_since attached faults old new tick setting number before after spaces left probes now (end_status told)
+  makes-store {old} {new} {tick} {setting} {number} {spaces} {left} {probes} {mid} {now} {played} told {kept} {before} {after} made tells few =
       record {
         played = end_status played;
         own = made.own;
@@ -176,6 +179,8 @@ module _ {D : Type 0} {seen : D → Option (List ℕ)} {image : D → List ℕ �
         script_is = made.script_is;
         reads = made.reads;
         writes = made.writes;
+        begins = made.begins;
+        asks = omega (arith, few, made.asks);
         plays = made.on.plays;
         tells = of spaces.contents made.own.source.left made.script_is played made.on.leaves made.on.stops tells;
         opened = ends.opened;
@@ -214,8 +219,8 @@ unattached-unfinished other un finished = finished
 abbrev pub SaysMade : {D : Type 0} (seen : D → Option (List ℕ)) (image : D → List ℕ → Type 0) (moment : D → ℕ) (image_since : D → ℕ → List ℕ → Type 0) (old new : D) (asked : Options) (spaces left : SpacesSeen) (status : Status) (before after : SinkSeen)
     (faultless : Outside → Outside → Type 0) → Status → Outside → Outside → Type 0
 SaysMade seen image moment image_since old new asked spaces left status before after faultless played own own_after =
-    IfOpened asked (seen old) own.source.left (λ setting script. IfTold spaces left asked.tick setting script (λ given.
-    Ran asked.fresh given played setting script own own_after (IsSettled (seen old) (image old)) (image new) (LeavesOnly moment image_since old new) (faultless own own_after)
+    IfOpened asked (seen old) own.source.left (λ opening setting script. IfTold spaces left asked.tick setting script (λ given.
+    Ran asked.fresh given played setting script (once_open opening own) own_after (IsSettled (seen old) (image old)) (image new) (LeavesOnly moment image_since old new) (faultless own own_after)
     × Tells played status (left_by setting (play given setting script)).state before after))
 
 -- the same of it where more is known
@@ -228,6 +233,8 @@ makes-given P R then_r makes = record {
   reads = makes.reads;
   writes = makes.writes;
   unread = makes.unread;
+  begins = makes.begins;
+  asks = makes.asks;
   says = then_r makes.played makes.own makes.own_after makes.says;
 }
 
@@ -242,45 +249,50 @@ makes-all (Some number) P each = each number
 module _ {D : Type 0} (seen : D → Option (List ℕ)) (image : D → List ℕ → Type 0) (moment : D → ℕ) (image_since : D → ℕ → List ℕ → Type 0) (attached : D → Option (List (List ℕ × Bool))) (faults : D → ℕ) where
   -- nothing was played
   pub makes-none : (asked : Options) (old new : D) (before after : Outside) (spaces left : SpacesSeen) (status : Status) (number : ℕ) (faultless : Outside → Outside → Type 0) → (IsFinished status → ⊥) → after.source ≡ before.source → after.sink ≡ before.sink →
-      IfOpened asked (seen old) (Some (generated number)) (λ setting script. IfTold spaces left asked.tick setting script (λ given.
-      Ran asked.fresh given status setting script (own_outside number) (own_outside number) (IsSettled (seen old) (image old)) (image new) (LeavesOnly moment image_since old new) (faultless (own_outside number) (own_outside number)))) →
+      IfOpened asked (seen old) (Some (generated number)) (λ opening setting script. IfTold spaces left asked.tick setting script (λ given.
+      Ran asked.fresh given status setting script (once_open opening (own_outside number before.probes)) (own_outside number after.probes) (IsSettled (seen old) (image old)) (image new) (LeavesOnly moment image_since old new) (faultless (own_outside number before.probes) (own_outside number after.probes)))) →
       Makes number before after (SaysMade seen image moment image_since old new asked spaces left status before.sink after.sink faultless)
   makes-none asked old new before after spaces left status number faultless unfinished unread unwritten ran =
-      let own = own_outside number in
+      let own = own_outside number before.probes in
+      let own_after = own_outside number after.probes in
       record {
         played = status;
         own = own;
-        own_after = own;
+        own_after = own_after;
         script_is = refl;
         reads = refl;
         writes = refl;
         unread = unread;
+        begins = refl;
+        asks = omega arith;
         says =
             told-given asked.fresh asked.tick
-            (λ given setting script. Ran asked.fresh given status setting script own own (IsSettled (seen old) (image old)) (image new) (LeavesOnly moment image_since old new) (faultless own own))
-            (λ given setting script. Ran asked.fresh given status setting script own own (IsSettled (seen old) (image old)) (image new) (LeavesOnly moment image_since old new) (faultless own own)
+            (λ opening given setting script. Ran asked.fresh given status setting script (once_open opening own) own_after (IsSettled (seen old) (image old)) (image new) (LeavesOnly moment image_since old new) (faultless own own_after))
+            (λ opening given setting script. Ran asked.fresh given status setting script (once_open opening own) own_after (IsSettled (seen old) (image old)) (image new) (LeavesOnly moment image_since old new) (faultless own own_after)
             × Tells status status (left_by setting (play given setting script)).state before.sink after.sink)
-            (λ given setting script ran. (ran, tells-stop status (left_by setting (play given setting script)).state before.sink after.sink unfinished unwritten)) spaces spaces left refl (seen old) (Some (generated number)) ran;
+            (λ opening given setting script ran. (ran, tells-stop status (left_by setting (play given setting script)).state before.sink after.sink unfinished unwritten)) spaces spaces left refl (seen old) (Some (generated number)) ran;
       }
 
   -- a store was opened, and the script was played on it
-  pub makes-opened : (counts_now : (disk : D) (t : ℕ) (c : List ℕ) → t ≤ moment disk → image disk c → image_since disk t c) (asked : Options) (old mid new : D) (setting : Setting) (before after : Outside) (spaces left : SpacesSeen) (status : Status) (number : ℕ) →
-      MakesStore seen image moment image_since attached faults mid new asked.tick setting number before.sink after.sink spaces left status → faults mid ≡ faults old → after.source ≡ before.source →
-      IfSome (seen old) (λ f. opening_outcome asked.fresh (held f) ≡ Ok setting) → IfSome (seen old) (λ _. Stands (seen mid) (image mid) setting) →
+  pub makes-opened : (counts_now : (disk : D) (t : ℕ) (c : List ℕ) → t ≤ moment disk → image disk c → image_since disk t c) (asked : Options) (old mid new : D) (setting : Setting) (before after : Outside) (spaces left : SpacesSeen) (status : Status) (number mid_probes : ℕ) →
+      MakesStore seen image moment image_since attached faults mid new asked.tick setting number before.sink after.sink spaces left mid_probes after.probes status → faults mid ≡ faults old → after.source ≡ before.source →
+      IfSome (seen old) (λ f. opening_outcome asked.fresh (held f) ≡ Ok setting) → IfSome (seen old) (λ f. mid_probes ≤ before.probes + loading f) → IfSome (seen old) (λ _. Stands (seen mid) (image mid) setting) →
       IfSome (seen old) (λ f. IfOk (opening_outcome asked.fresh (held f)) (Opening seen image moment image_since attached faults asked.fresh (IsSettled (seen old) (image old)) old mid)) →
       Makes number before after (SaysMade seen image moment image_since old new asked spaces left status before.sink after.sink (λ own own_after. IsFaultless own own_after (faults old) (faults new)))
-  makes-opened counts_now asked old mid new setting before after spaces left status number made quiet unread is stands opening =
+  makes-opened counts_now asked old mid new setting before after spaces left status number mid_probes made quiet unread is few stands opening =
       record {
         played = made.played;
-        own = made.own;
+        own = record made.own { probes = before.probes };
         own_after = made.own_after;
         script_is = made.script_is;
         reads = made.reads;
         writes = made.writes;
         unread = unread;
+        begins = refl;
+        asks = made.asks;
         says =
-            ran-opened-with seen image moment image_since attached faults counts_now asked.fresh asked.tick (IsSettled (seen old) (image old)) old mid new setting made.own made.own_after spaces left made.played made.plays quiet
-            (λ given z script. Tells made.played status (left_by z (play given z script)).state before.sink after.sink) (seen old) is stands opening (tells spaces.contents made.own.source.left made.script_is made.tells);
+            ran-opened-with seen image moment image_since attached faults counts_now asked.fresh asked.tick (IsSettled (seen old) (image old)) old mid new setting made.own made.own_after before.probes spaces left made.played made.plays quiet
+            (λ given z script. Tells made.played status (left_by z (play given z script)).state before.sink after.sink) (seen old) is (subst (λ (n : ℕ). IfSome (seen old) (λ f. n ≤ before.probes + loading f)) (sym made.begins) few) stands opening (tells spaces.contents made.own.source.left made.script_is made.tells);
       }
     where
       tells : (o : Option Contents) (script : Option (List ℕ)) → script ≡ Some (generated number) →
@@ -292,7 +304,8 @@ module _ {D : Type 0} (seen : D → Option (List ℕ)) (image : D → List ℕ �
 
 -- how such a run ends
 pub made-ends : {D : Type 0} {seen : D → Option (List ℕ)} {image : D → List ℕ → Type 0} {moment : D → ℕ} {image_since : D → ℕ → List ℕ → Type 0} {attached : D → Option (List (List ℕ × Bool))} {faults : D → ℕ} {old new : D} {tick : ℕ} {setting : Setting} {number : ℕ}
-    {spaces left : SpacesSeen} {status : Status} (before : Outside) (after : SinkSeen) → MakesStore seen image moment image_since attached faults old new tick setting number before.sink after spaces left status → Ends status before (outside before.source after)
+    {spaces left : SpacesSeen} {probes probes_now : ℕ} {status : Status} (before : Outside) (after : SinkSeen) → MakesStore seen image moment image_since attached faults old new tick setting number before.sink after spaces left probes probes_now status →
+    Ends status before (outside before.source after probes_now)
 made-ends before after made = record {
   reads = subst (λ (b : Bool). ReportsFault b before.source.faults before.source.faults) (sym made.unread) refl;
   writes = made.wrote;
@@ -308,16 +321,16 @@ makes-not (Some number) P is = absurd (true≢false (ap is_some is))
 module _ {D : Type 0} (seen : D → Option (List ℕ)) (image : D → List ℕ → Type 0) (moment : D → ℕ) (image_since : D → ℕ → List ℕ → Type 0) (attached : D → Option (List (List ℕ × Bool))) (faults : D → ℕ)
     (only_now : (disk : D) (c : List ℕ) → image_since disk (moment disk) c → image disk c) (counts_now : (disk : D) (t : ℕ) (c : List ℕ) → t ≤ moment disk → image disk c → image_since disk t c) where
   -- no store was opened
-  pub made-unopened : (asked : Options) (old new : D) (before : Outside) (spaces : SpacesSeen) (status : Status) → StopsOpening status → ReportsFault (is_disk_fault status) (faults old) (faults new) →
-      IfSome (seen old) (λ f. IsOpened (Err status) (opening_outcome asked.fresh (held f))) →
+  pub made-unopened : (asked : Options) (old new : D) (before : Outside) (now : ℕ) (spaces : SpacesSeen) (status : Status) → StopsOpening status → ReportsFault (is_disk_fault status) (faults old) (faults new) →
+      IfSome (seen old) (λ f. IsOpened (Err status) (opening_outcome asked.fresh (held f))) → IfSome (seen old) (λ f. now ≤ before.probes + loading f) →
       IfSome (seen old) (λ f. IfOk (opening_outcome asked.fresh (held f)) (Opening seen image moment image_since attached faults asked.fresh (IsSettled (seen old) (image old)) old new)) →
-      (make : Option ℕ) → IfSome make (λ number. Makes number before before
+      (make : Option ℕ) → IfSome make (λ number. Makes number before (record before { probes = now })
       (SaysMade seen image moment image_since old new asked spaces spaces status before.sink before.sink (λ own own_after. IsFaultless own own_after (faults old) (faults new))))
-  made-unopened asked old new before spaces status stops told opened opening make =
-      makes-all make (λ number. Makes number before before (SaysMade seen image moment image_since old new asked spaces spaces status before.sink before.sink (λ own own_after. IsFaultless own own_after (faults old) (faults new))))
+  made-unopened asked old new before now spaces status stops told opened few opening make =
+      makes-all make (λ number. Makes number before (record before { probes = now }) (SaysMade seen image moment image_since old new asked spaces spaces status before.sink before.sink (λ own own_after. IsFaultless own own_after (faults old) (faults new))))
       (λ number.
-      makes-none seen image moment image_since attached faults asked old new before before spaces spaces status number (λ own own_after. IsFaultless own own_after (faults old) (faults new)) (opening-unfinished status stops) refl refl
-      (ran-unopened seen image moment image_since attached faults counts_now asked.fresh asked.tick (IsSettled (seen old) (image old)) old new (own_outside number) spaces status stops told (seen old) opened opening))
+      makes-none seen image moment image_since attached faults asked old new before (record before { probes = now }) spaces spaces status number (λ own own_after. IsFaultless own own_after (faults old) (faults new)) (opening-unfinished status stops) refl refl
+      (ran-unopened seen image moment image_since attached faults counts_now asked.fresh asked.tick (IsSettled (seen old) (image old)) old new (own_outside number before.probes) now spaces status stops told (seen old) opened few opening))
 
   -- no space was attached
   pub made-unattached : (faultless : Outside → Outside → Type 0) (status : Status) → IsUnattached status → ((own : Outside) → faultless own own → is_bad_space status ≡ true → ⊥) → (asked : Options) (disk : D) (before : Outside) (old new : SpacesSeen) → old.faults ≤ new.faults →
@@ -326,7 +339,7 @@ module _ {D : Type 0} (seen : D → Option (List ℕ)) (image : D → List ℕ �
       makes-all make (λ number. Makes number before before (SaysMade seen image moment image_since disk disk asked old new status before.sink before.sink faultless))
       (λ number.
       makes-none seen image moment image_since attached faults asked disk disk before before old new status number faultless (unattached-unfinished status un) refl refl
-      (ran-unattached seen image moment image_since attached faults only_now counts_now (faultless (own_outside number) (own_outside number)) status un (good (own_outside number)) asked disk (own_outside number) old new later))
+      (ran-unattached seen image moment image_since attached faults only_now counts_now (faultless (own_outside number before.probes) (own_outside number before.probes)) status un (good (own_outside number before.probes)) asked disk (own_outside number before.probes) old new later))
 
   -- memory ran out before any space was attached
   pub memory-made : (faultless : Options → Outside → Outside → Type 0) (words : Option Options) (disk : D) (before : Outside) (spaces : SpacesSeen) →
@@ -347,7 +360,7 @@ module _ {D : Type 0} (seen : D → Option (List ℕ)) (image : D → List ℕ �
       makes-given (SaysMade seen image moment image_since old new asked mid left status before.sink after.sink less) (SaysMade seen image moment image_since old new asked spaces left status before.sink after.sink more)
       (λ played own own_after says.
       told-given asked.fresh asked.tick
-      (λ given setting script. Ran asked.fresh given played setting script own own_after settled (image new) leaves (less own own_after) × Tells played status (left_by setting (play given setting script)).state before.sink after.sink)
-      (λ given setting script. Ran asked.fresh given played setting script own own_after settled (image new) leaves (more own own_after) × Tells played status (left_by setting (play given setting script)).state before.sink after.sink)
-      (λ given setting script both. (ran-more asked.fresh given played setting script own own_after settled (image new) leaves (less own own_after) (more own own_after) (leads own own_after) both.0, both.1))
+      (λ opening given setting script. Ran asked.fresh given played setting script (once_open opening own) own_after settled (image new) leaves (less own own_after) × Tells played status (left_by setting (play given setting script)).state before.sink after.sink)
+      (λ opening given setting script. Ran asked.fresh given played setting script (once_open opening own) own_after settled (image new) leaves (more own own_after) × Tells played status (left_by setting (play given setting script)).state before.sink after.sink)
+      (λ opening given setting script both. (ran-more asked.fresh given played setting script (once_open opening own) own_after settled (image new) leaves (less own own_after) (more own own_after) (leads own own_after) both.0, both.1))
       spaces mid left same (seen old) own.source.left says)) made

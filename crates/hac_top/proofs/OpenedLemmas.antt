@@ -1,5 +1,5 @@
 -- What a crash leaves while a store is opened, and how a run ends, given how it was opened.
-use Rattle.std.proofs.Common.{◌≡◌, ◌⊎◌, ℕ, ◌≤◌, true, false, Bool, List, [], length, refl, ap, sym, ◌∙◌, subst, arith, rules, inl, inr}
+use Rattle.std.proofs.Common.{◌≡◌, ◌⊎◌, ℕ, ◌+◌, ◌≤◌, true, false, Bool, List, [], length, refl, ap, sym, ◌∙◌, subst, arith, rules, inl, inr}
 use Rattle.std.specs.Prelude.{⊤, Option, None, Some, Result, Ok, Err, IfOk, IsErr}
 use Rattle.std.specs.Option.{IfSome}
 use Rattle.hac_disk.specs.Images.{IsQuiet, LeavesOnly}
@@ -15,10 +15,11 @@ use Rattle.hac_model.specs.Tree.Sessions.{stored}
 use Rattle.hac_model.specs.declared.events.Event.{Event}
 use Rattle.hac_model.specs.declared.states.State.{State}
 use Rattle.hac_store.specs.Held.{held}
+use Rattle.hac_store.specs.Loading.{loading}
 use Rattle.hac_store.specs.Stores.{IsNewOrNone, Stands}
 use Rattle.hac_top.specs.Crashes.{Holds, IsOpened, IsTreeAfter, IsTreeOfAnswered, Reopens, StopsOpening, IsOfFile, opening_outcome}
 use Rattle.hac_top.specs.Ends.{IsFinished, IsOpenStatus, is_disk_fault}
-use Rattle.hac_top.specs.Run.{AnswersBy, Completes, Ends, HasBegun, IsFaultless, IsTreeOf, Outside, Played, Plays, PlaysStore, Ran}
+use Rattle.hac_top.specs.Run.{AnswersBy, Completes, Ends, HasBegun, IsFaultless, IsTreeOf, Outside, Played, Plays, PlaysStore, Ran, once_open}
 use Rattle.hac_top.specs.declared.status.Status.{Status}
 use Rattle.hac_top.specs.declared.status.Status.TheVariants.{Done, SomeRefused, ReadFault, WriteFault, DiskFault, NotStore, Memory, TooLong, AlreadyStore}
 use Rattle.hac_top.proofs.CrashLemmas.{all-answered, holds-weaker, reopens}
@@ -113,24 +114,25 @@ told-none old new tick setting bytes P later holds = by new.contents
     by (Some c) = ([], record { askable = askable-none c tick setting (Script.script bytes); counted = later; none = λ _. refl }, holds (given_by c [] tick))
 
 -- what is said of a run whose spaces were attached before, given what follows from it
-pub told-given : (fresh : Bool) (tick : ℕ) (P R : Given → Setting → List ℕ → Type 0) → ((given : Given) (setting : Setting) (script : List ℕ) → P given setting script → R given setting script) →
+pub told-given : (fresh : Bool) (tick : ℕ) (P R : ℕ → Given → Setting → List ℕ → Type 0) →
+    ((opening : ℕ) (given : Given) (setting : Setting) (script : List ℕ) → P opening given setting script → R opening given setting script) →
     (old mid new : SpacesSeen) → mid.faults ≡ old.faults → (seen left : Option (List ℕ)) →
-    IfSome seen (λ file. IfSome left (λ script. IfOk (opening_outcome fresh (held file)) (λ setting. IfTold mid new tick setting script (λ given. P given setting script)))) →
-    IfSome seen (λ file. IfSome left (λ script. IfOk (opening_outcome fresh (held file)) (λ setting. IfTold old new tick setting script (λ given. R given setting script))))
+    IfSome seen (λ file. IfSome left (λ script. IfOk (opening_outcome fresh (held file)) (λ setting. IfTold mid new tick setting script (λ given. P (loading file) given setting script)))) →
+    IfSome seen (λ file. IfSome left (λ script. IfOk (opening_outcome fresh (held file)) (λ setting. IfTold old new tick setting script (λ given. R (loading file) given setting script))))
 told-given fresh tick P R then_r old mid new same None left told = search rules
 told-given fresh tick P R then_r old mid new same (Some file) None told = search rules
 told-given fresh tick P R then_r old mid new same (Some file) (Some script) told = by (opening_outcome fresh (held file)) told
   where
-    of : (setting : Setting) (o : Option Contents) → IfSome o (λ c. (met : List (Option (List ℕ))) × AreMet mid new (given_by c met tick) setting script × P (given_by c met tick) setting script) →
-        IfSome o (λ c. (met : List (Option (List ℕ))) × AreMet old new (given_by c met tick) setting script × R (given_by c met tick) setting script)
+    of : (setting : Setting) (o : Option Contents) → IfSome o (λ c. (met : List (Option (List ℕ))) × AreMet mid new (given_by c met tick) setting script × P (loading file) (given_by c met tick) setting script) →
+        IfSome o (λ c. (met : List (Option (List ℕ))) × AreMet old new (given_by c met tick) setting script × R (loading file) (given_by c met tick) setting script)
     of setting None told = search rules
     of setting (Some c) (met, are, told) = (
       met,
       record { askable = are.askable; counted = subst (λ (n : ℕ). faults_after n met ≤ new.faults) same are.counted; none = λ quiet. are.none (λ rose. quiet (subst (λ (n : ℕ). Rose n new.faults) same rose)) },
-      then_r (given_by c met tick) setting script told,
+      then_r (loading file) (given_by c met tick) setting script told,
     )
 
-    by : (r : Result Setting Status) → IfOk r (λ setting. IfTold mid new tick setting script (λ given. P given setting script)) → IfOk r (λ setting. IfTold old new tick setting script (λ given. R given setting script))
+    by : (r : Result Setting Status) → IfOk r (λ setting. IfTold mid new tick setting script (λ given. P (loading file) given setting script)) → IfOk r (λ setting. IfTold old new tick setting script (λ given. R (loading file) given setting script))
     by (Err wanted) told = search rules
     by (Ok setting) told = of setting new.contents told
 
@@ -151,16 +153,22 @@ module _ {D : Type 0} (seen : D → Option (List ℕ)) (image : D → List ℕ �
   Opening fresh settled old new setting = settled → LeavesOnly moment image_since old new (Reopens fresh (λ s. s ≡ stored setting.state))
 
   -- a store was opened
-  module _ (counts_now : (disk : D) (t : ℕ) (c : List ℕ) → t ≤ moment disk → image disk c → image_since disk t c) (fresh : Bool) (tick : ℕ) (settled : Type 0) (old mid new : D) (setting : Setting) (before after : Outside) (spaces left : SpacesSeen) (status : Status)
+  module _ (counts_now : (disk : D) (t : ℕ) (c : List ℕ) → t ≤ moment disk → image disk c → image_since disk t c) (fresh : Bool) (tick : ℕ) (settled : Type 0) (old mid new : D) (setting : Setting) (before after : Outside) (begun : ℕ) (spaces left : SpacesSeen) (status : Status)
       (plays : PlaysStore seen image moment image_since attached faults mid new tick setting before after spaces left status) (quiet : faults mid ≡ faults old) where
-    ran-from : (given : Given) (script : List ℕ) → Stands (seen mid) (image mid) setting → Opening fresh settled old mid setting → Played false given status setting script before after (Stands (seen mid) (image mid) setting) (image new) →
+    ran-from : (given : Given) (script : List ℕ) (opens : ℕ) → before.probes ≤ begun + opens → Stands (seen mid) (image mid) setting → Opening fresh settled old mid setting → Played false given status setting script before after (Stands (seen mid) (image mid) setting) (image new) →
         (Stands (seen mid) (image mid) setting → LeavesOnly moment image_since mid new (Holds (IsTreeOf given setting script))) →
-        Ran fresh given status setting script before after settled (image new) (LeavesOnly moment image_since old new) (IsFaultless before after (faults old) (faults new))
-    ran-from given script stands opening played moments =
+        Ran fresh given status setting script (once_open opens (record before { probes = begun })) after settled (image new) (LeavesOnly moment image_since old new) (IsFaultless before after (faults old) (faults new))
+    ran-from given script opens few stands opening played moments =
         let events = all_events (play given setting script) in
         record {
           played = record {
-            plays = played.plays;
+            plays = record {
+              replies = played.plays.replies;
+              whole = played.plays.whole;
+              prompt = played.plays.prompt;
+              answers = played.plays.answers;
+              asks = omega (arith, few, played.plays.asks);
+            };
             reopens = λ _ c left. reopens fresh (IsTreeOfAnswered (stored setting.state) (play given setting script) played.plays.replies.done) c (played.reopens stands c left);
             kept = λ _. played.kept stands;
           };
@@ -185,45 +193,45 @@ module _ {D : Type 0} (seen : D → Option (List ℕ)) (image : D → List ℕ �
 
     -- the same and what else is known of it
     module _ (Q : Given → Setting → List ℕ → Type 0) where
-      abbrev Says : Setting → List ℕ → Given → Type 0
-      Says z script given =
-          Ran fresh given status z script before after settled (image new) (LeavesOnly moment image_since old new) (IsFaultless before after (faults old) (faults new)) × Q given z script
+      abbrev Says : ℕ → Setting → List ℕ → Given → Type 0
+      Says opens z script given =
+          Ran fresh given status z script (once_open opens (record before { probes = begun })) after settled (image new) (LeavesOnly moment image_since old new) (IsFaultless before after (faults old) (faults new)) × Q given z script
 
-      ran-told : (script : Option (List ℕ)) (o : Option Contents) → IfSome o (λ c. IfSome script (λ s. AreAskable (given_by c plays.met tick) setting (Script.script s))) →
+      ran-told : (opens : ℕ) → before.probes ≤ begun + opens → (script : Option (List ℕ)) (o : Option Contents) → IfSome o (λ c. IfSome script (λ s. AreAskable (given_by c plays.met tick) setting (Script.script s))) →
           IfSome o (λ c. IfSome script (λ s. Played false (given_by c plays.met tick) status setting s before after (Stands (seen mid) (image mid) setting) (image new))) →
           IfSome o (λ c. IfSome script (λ s. Stands (seen mid) (image mid) setting → LeavesOnly moment image_since mid new (Holds (IsTreeOf (given_by c plays.met tick) setting s)))) →
           IfSome o (λ c. IfSome script (λ s. Q (given_by c plays.met tick) setting s)) → Stands (seen mid) (image mid) setting → Opening fresh settled old mid setting →
-          IfSome script (λ s. IfSome o (λ c. (met : List (Option (List ℕ))) × AreMet spaces left (given_by c met tick) setting s × Says setting s (given_by c met tick)))
-      ran-told None o askable played moments other stands opening = search rules
-      ran-told (Some s) None askable played moments other stands opening = search rules
-      ran-told (Some s) (Some c) askable played moments other stands opening = (plays.met, ran-met c s askable, (ran-from (given_by c plays.met tick) s stands opening played moments, other))
+          IfSome script (λ s. IfSome o (λ c. (met : List (Option (List ℕ))) × AreMet spaces left (given_by c met tick) setting s × Says opens setting s (given_by c met tick)))
+      ran-told opens few None o askable played moments other stands opening = search rules
+      ran-told opens few (Some s) None askable played moments other stands opening = search rules
+      ran-told opens few (Some s) (Some c) askable played moments other stands opening = (plays.met, ran-met c s askable, (ran-from (given_by c plays.met tick) s opens few stands opening played moments, other))
 
-      pub ran-opened-with : (file : Option (List ℕ)) → IfSome file (λ f. opening_outcome fresh (held f) ≡ Ok setting) → IfSome file (λ _. Stands (seen mid) (image mid) setting) →
+      pub ran-opened-with : (file : Option (List ℕ)) → IfSome file (λ f. opening_outcome fresh (held f) ≡ Ok setting) → IfSome file (λ f. before.probes ≤ begun + loading f) → IfSome file (λ _. Stands (seen mid) (image mid) setting) →
           IfSome file (λ f. IfOk (opening_outcome fresh (held f)) (Opening fresh settled old mid)) → IfSome spaces.contents (λ c. IfSome before.source.left (λ s. Q (given_by c plays.met tick) setting s)) →
-          IfSome file (λ f. IfSome before.source.left (λ script. IfOk (opening_outcome fresh (held f)) (λ z. IfTold spaces left tick z script (Says z script))))
-      ran-opened-with None is stands opening other = search rules
-      ran-opened-with (Some f) is stands opening other =
-          both before.source.left (λ s. IfSome spaces.contents (λ c. (met : List (Option (List ℕ))) × AreMet spaces left (given_by c met tick) setting s × Says setting s (given_by c met tick)))
-          (λ s. ⊤) (λ script. IfOk (opening_outcome fresh (held f)) (λ z. IfTold spaces left tick z script (Says z script)))
+          IfSome file (λ f. IfSome before.source.left (λ script. IfOk (opening_outcome fresh (held f)) (λ z. IfTold spaces left tick z script (Says (loading f) z script))))
+      ran-opened-with None is few stands opening other = search rules
+      ran-opened-with (Some f) is few stands opening other =
+          both before.source.left (λ s. IfSome spaces.contents (λ c. (met : List (Option (List ℕ))) × AreMet spaces left (given_by c met tick) setting s × Says (loading f) setting s (given_by c met tick)))
+          (λ s. ⊤) (λ script. IfOk (opening_outcome fresh (held f)) (λ z. IfTold spaces left tick z script (Says (loading f) z script)))
           (λ script ran _.
-          subst (λ (r : Result Setting Status). IfOk r (λ z. IfTold spaces left tick z script (Says z script))) (sym is)
-          (subst (λ (o : Option Contents). IfSome o (λ c. (met : List (Option (List ℕ))) × AreMet spaces left (given_by c met tick) setting script × Says setting script (given_by c met tick))) (sym plays.asked.stay.contents) ran))
-          (ran-told before.source.left spaces.contents plays.askable plays.played plays.moments other stands (subst (λ (r : Result Setting Status). IfOk r (Opening fresh settled old mid)) is opening))
+          subst (λ (r : Result Setting Status). IfOk r (λ z. IfTold spaces left tick z script (Says (loading f) z script))) (sym is)
+          (subst (λ (o : Option Contents). IfSome o (λ c. (met : List (Option (List ℕ))) × AreMet spaces left (given_by c met tick) setting script × Says (loading f) setting script (given_by c met tick))) (sym plays.asked.stay.contents) ran))
+          (ran-told (loading f) few before.source.left spaces.contents plays.askable plays.played plays.moments other stands (subst (λ (r : Result Setting Status). IfOk r (Opening fresh settled old mid)) is opening))
           (trivial before.source.left)
         where
           trivial : (l : Option (List ℕ)) → IfSome l (λ s. ⊤)
           trivial None = search rules
           trivial (Some s) = tt
 
-    pub ran-opened : (file : Option (List ℕ)) → IfSome file (λ f. opening_outcome fresh (held f) ≡ Ok setting) → IfSome file (λ _. Stands (seen mid) (image mid) setting) →
+    pub ran-opened : (file : Option (List ℕ)) → IfSome file (λ f. opening_outcome fresh (held f) ≡ Ok setting) → IfSome file (λ f. before.probes ≤ begun + loading f) → IfSome file (λ _. Stands (seen mid) (image mid) setting) →
         IfSome file (λ f. IfOk (opening_outcome fresh (held f)) (Opening fresh settled old mid)) →
         IfSome file (λ f. IfSome before.source.left (λ script. IfOk (opening_outcome fresh (held f)) (λ z. IfTold spaces left tick z script (λ given.
-        Ran fresh given status z script before after settled (image new) (LeavesOnly moment image_since old new) (IsFaultless before after (faults old) (faults new))))))
-    ran-opened file is stands opening =
-        told-given fresh tick (λ given z script. Says (λ given z script. ⊤) z script given)
-        (λ given z script. Ran fresh given status z script before after settled (image new) (LeavesOnly moment image_since old new) (IsFaultless before after (faults old) (faults new)))
-        (λ given z script ran. ran.0) spaces spaces left refl file before.source.left
-        (ran-opened-with (λ given z script. ⊤) file is stands opening (nothing spaces.contents before.source.left))
+        Ran fresh given status z script (once_open (loading f) (record before { probes = begun })) after settled (image new) (LeavesOnly moment image_since old new) (IsFaultless before after (faults old) (faults new))))))
+    ran-opened file is few stands opening =
+        told-given fresh tick (λ opens given z script. Says (λ given z script. ⊤) opens z script given)
+        (λ opens given z script. Ran fresh given status z script (once_open opens (record before { probes = begun })) after settled (image new) (LeavesOnly moment image_since old new) (IsFaultless before after (faults old) (faults new)))
+        (λ opens given z script ran. ran.0) spaces spaces left refl file before.source.left
+        (ran-opened-with (λ given z script. ⊤) file is few stands opening (nothing spaces.contents before.source.left))
       where
         nothing : (o : Option Contents) (l : Option (List ℕ)) → IfSome o (λ c. IfSome l (λ s. ⊤))
         nothing None l = search rules
@@ -231,21 +239,21 @@ module _ {D : Type 0} (seen : D → Option (List ℕ)) (image : D → List ℕ �
         nothing (Some c) (Some s) = tt
 
   -- no store was opened: the run does nothing, and a crash leaves what it would have gone on from
-  module _ (counts_now : (disk : D) (t : ℕ) (c : List ℕ) → t ≤ moment disk → image disk c → image_since disk t c) (fresh : Bool) (tick : ℕ) (settled : Type 0) (old new : D) (before : Outside) where
-    pub ran-none : (given : Given) (faultless : Type 0) (ends : Status) (setting : Setting) (script : List ℕ) → Some script ≡ before.source.left → Opening fresh settled old new setting → ((done : ℕ) → AnswersBy given ends setting script done (Some script)) →
-        (IsFinished ends → ⊥) → (faultless → Completes ends script) → Ran fresh given ends setting script before before settled (image new) (LeavesOnly moment image_since old new) faultless
-    ran-none given faultless ends setting script left_is opening answers unfinished complete =
+  module _ (counts_now : (disk : D) (t : ℕ) (c : List ℕ) → t ≤ moment disk → image disk c → image_since disk t c) (fresh : Bool) (tick : ℕ) (settled : Type 0) (old new : D) (before : Outside) (now : ℕ) where
+    pub ran-none : (given : Given) (faultless : Type 0) (ends : Status) (setting : Setting) (script : List ℕ) → Some script ≡ before.source.left → now ≤ before.probes → Opening fresh settled old new setting → ((done : ℕ) → AnswersBy given ends setting script done (Some script)) →
+        (IsFinished ends → ⊥) → (faultless → Completes ends script) → Ran fresh given ends setting script before (record before { probes = now }) settled (image new) (LeavesOnly moment image_since old new) faultless
+    ran-none given faultless ends setting script left_is few opening answers unfinished complete =
         let goes = goes-first given given setting script false before.sink refl refl in
         let done = turns_of given setting goes.played goes.last in
         let all_is = turns-are given given setting script script false setting false before.sink before.sink goes in
         let state_is = state-is given given setting script script false setting false before.sink before.sink goes in
         record {
           played = record {
-            plays = plays-stop given given setting ends Memory script script script false setting false before before goes left_is (λ none. none) (nothing-stops script script refl) (answers (length done));
-            reopens = λ settles c now.
+            plays = plays-stop given given setting ends Memory script script script false setting false before (record before { probes = now }) goes left_is (λ none. none) (nothing-stops script script refl) (answers (length done)) (λ n _. omega (arith, few));
+            reopens = λ settles c left.
                 let run = opening settles in
                 reopens-weaker fresh (λ s. s ≡ stored setting.state) (IsTreeOfAnswered (stored setting.state) (play given setting script) (length done)) c
-                (λ s same. all-answered (stored setting.state) s (play given setting script) done (play given setting script) all_is (same ∙ state_is)) (run.each c (counts_now new (moment old) c run.later now));
+                (λ s same. all-answered (stored setting.state) s (play given setting script) done (play given setting script) all_is (same ∙ state_is)) (run.each c (counts_now new (moment old) c run.later left));
             kept = λ _ finished. absurd (unfinished finished);
           };
           moments = λ settles.
@@ -255,26 +263,27 @@ module _ {D : Type 0} (seen : D → Option (List ℕ)) (image : D → List ℕ �
           complete = complete;
         }
 
-    pub ran-unopened : (spaces : SpacesSeen) (ends : Status) → StopsOpening ends → ReportsFault (is_disk_fault ends) (faults old) (faults new) → (file : Option (List ℕ)) → IfSome file (λ f. IsOpened (Err ends) (opening_outcome fresh (held f))) →
+  module _ (counts_now : (disk : D) (t : ℕ) (c : List ℕ) → t ≤ moment disk → image disk c → image_since disk t c) (fresh : Bool) (tick : ℕ) (settled : Type 0) (old new : D) (before : Outside) (now : ℕ) where
+    pub ran-unopened : (spaces : SpacesSeen) (ends : Status) → StopsOpening ends → ReportsFault (is_disk_fault ends) (faults old) (faults new) → (file : Option (List ℕ)) → IfSome file (λ f. IsOpened (Err ends) (opening_outcome fresh (held f))) → IfSome file (λ f. now ≤ before.probes + loading f) →
         IfSome file (λ f. IfOk (opening_outcome fresh (held f)) (Opening fresh settled old new)) →
-        IfSome file (λ f. IfSome before.source.left (λ script. IfOk (opening_outcome fresh (held f)) (λ z. IfTold spaces spaces tick z script (λ given. Ran fresh given ends z script before before settled (image new) (LeavesOnly moment image_since old new) (IsFaultless before before (faults old) (faults new))))))
-    ran-unopened spaces ends why told None opened opening = search rules
-    ran-unopened spaces ends why told (Some f) opened opening = of before.source.left refl
+        IfSome file (λ f. IfSome before.source.left (λ script. IfOk (opening_outcome fresh (held f)) (λ z. IfTold spaces spaces tick z script (λ given. Ran fresh given ends z script (once_open (loading f) before) (record before { probes = now }) settled (image new) (LeavesOnly moment image_since old new) (IsFaultless before before (faults old) (faults new))))))
+    ran-unopened spaces ends why told None opened few opening = search rules
+    ran-unopened spaces ends why told (Some f) opened few opening = of before.source.left refl
       where
         by : (given : Given) (ends : Status) → StopsOpening ends → ReportsFault (is_disk_fault ends) (faults old) (faults new) → (setting : Setting) (script : List ℕ) → Some script ≡ before.source.left → (IsOfFile ends → Ok setting ≡ Err ends) → Opening fresh settled old new setting →
-            Ran fresh given ends setting script before before settled (image new) (LeavesOnly moment image_since old new) (IsFaultless before before (faults old) (faults new))
-        by given DiskFault why told setting script left_is tells opening = ran-none given (IsFaultless before before (faults old) (faults new)) DiskFault setting script left_is opening (λ done. tt) (λ never. never) (λ none. absurd (none.2 told.1))
-        by given Memory why told setting script left_is tells opening = ran-none given (IsFaultless before before (faults old) (faults new)) Memory setting script left_is opening (λ done. tt) (λ never. never) (λ _. record { within = λ _. inr refl; past = λ _. inr refl })
+            Ran fresh given ends setting script (once_open (loading f) before) (record before { probes = now }) settled (image new) (LeavesOnly moment image_since old new) (IsFaultless before before (faults old) (faults new))
+        by given DiskFault why told setting script left_is tells opening = ran-none counts_now fresh tick settled old new (once_open (loading f) before) now given (IsFaultless before before (faults old) (faults new)) DiskFault setting script left_is few opening (λ done. tt) (λ never. never) (λ none. absurd (none.2 told.1))
+        by given Memory why told setting script left_is tells opening = ran-none counts_now fresh tick settled old new (once_open (loading f) before) now given (IsFaultless before before (faults old) (faults new)) Memory setting script left_is few opening (λ done. tt) (λ never. never) (λ _. record { within = λ _. inr refl; past = λ _. inr refl })
         by given (NotStore at) why told setting script left_is tells opening = absurd (let never : Ok setting ≡ Err (NotStore at) = tells tt in cc)
         by given AlreadyStore why told setting script left_is tells opening = absurd (let never : Ok setting ≡ Err AlreadyStore = tells tt in cc)
         by given other why told setting script left_is tells opening = absurd why
 
         at : (r : Result Setting Status) (script : List ℕ) → Some script ≡ before.source.left → IsOpened (Err ends) r → IfOk r (Opening fresh settled old new) →
-            IfOk r (λ z. IfTold spaces spaces tick z script (λ given. Ran fresh given ends z script before before settled (image new) (LeavesOnly moment image_since old new) (IsFaultless before before (faults old) (faults new))))
+            IfOk r (λ z. IfTold spaces spaces tick z script (λ given. Ran fresh given ends z script (once_open (loading f) before) (record before { probes = now }) settled (image new) (LeavesOnly moment image_since old new) (IsFaultless before before (faults old) (faults new))))
         at (Err wanted) script left_is opened opening = search rules
-        at (Ok setting) script left_is opened opening = told-none spaces spaces tick setting script (λ given. Ran fresh given ends setting script before before settled (image new) (LeavesOnly moment image_since old new) (IsFaultless before before (faults old) (faults new))) (omega arith) (λ given. by given ends why told setting script left_is opened opening)
+        at (Ok setting) script left_is opened opening = told-none spaces spaces tick setting script (λ given. Ran fresh given ends setting script (once_open (loading f) before) (record before { probes = now }) settled (image new) (LeavesOnly moment image_since old new) (IsFaultless before before (faults old) (faults new))) (omega arith) (λ given. by given ends why told setting script left_is opened opening)
 
         of : (left : Option (List ℕ)) → left ≡ before.source.left →
-            IfSome left (λ script. IfOk (opening_outcome fresh (held f)) (λ z. IfTold spaces spaces tick z script (λ given. Ran fresh given ends z script before before settled (image new) (LeavesOnly moment image_since old new) (IsFaultless before before (faults old) (faults new)))))
+            IfSome left (λ script. IfOk (opening_outcome fresh (held f)) (λ z. IfTold spaces spaces tick z script (λ given. Ran fresh given ends z script (once_open (loading f) before) (record before { probes = now }) settled (image new) (LeavesOnly moment image_since old new) (IsFaultless before before (faults old) (faults new)))))
         of None left_is = search rules
         of (Some script) left_is = at (opening_outcome fresh (held f)) script left_is opened opening

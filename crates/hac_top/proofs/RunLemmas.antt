@@ -9,6 +9,7 @@ use Rattle.hac_model.specs.Script.Lines.{Item}
 use Rattle.hac_model.specs.Script.{first_line, due, first_items, after_item, script, whole}
 use Rattle.hac_model.specs.declared.limits.TheConstants.{SCRIPT_LIMIT}
 use Rattle.hac_model.specs.Tree.Events.{apply_all}
+use Rattle.hac_model.specs.Run.Costs.{lines_cost}
 use Rattle.hac_model.specs.Run.Play.{Given, Setting, Turn, all_events, has_refusal, is_refused, left_by, play, stored_setting, turns, turns_text}
 use Rattle.hac_model.specs.Tree.Sessions.{stored}
 use Rattle.hac_model.specs.declared.states.State.{State}
@@ -104,6 +105,11 @@ pub turns-next : (given : Given) (line : TakenLine) (is_ended : Bool) (bytes res
 turns-next given line is_ended bytes rest setting gives =
     ap (play given setting) gives.bytes_are ∙ line-then given setting is_ended gives.own rest gives.line_is
     ∙ ap (λ (items : List Item). turns given setting items ++ play (given_after given (turns given setting items)) (left_by setting (turns given setting items)) rest) (sym gives.items)
+
+-- where a reply was cut, all before it are done
+behind-done : (count : ℕ) (done now : List Turn) → (count ≡ length done) ⊎ (count ≡ length (done ++ now)) → length done ≤ count
+behind-done count done now (inl is) = omega (arith, is)
+behind-done count done now (inr is) = omega (arith, is, length-append done now)
 
 module _ (given later : Given) (first : Setting) where
   module _ (s p : List ℕ) (ended : Bool) (setting : Setting) (refused : Bool) (before now : SinkSeen) (goes : Goes given later first s p ended setting refused before now) where
@@ -242,8 +248,9 @@ module _ (given later : Given) (first : Setting) where
 
   -- a run that ends with all replies that it began
   abbrev pub plays-stop : (status why : Status) (s p l : List ℕ) (ended : Bool) (setting : Setting) (refused : Bool) (before after : Outside) (goes : Goes given later first s p ended setting refused before.sink after.sink) →
-      Some l ≡ after.source.left → (before.sink.held_back ≡ 0 → after.sink.held_back ≡ 0) → StopsIn why p l → AnswersBy given status first s (length (turns_of given first goes.played goes.last)) (Some l) → Plays given status first s before after
-  plays-stop status why s p l ended setting refused before after goes left_is passed stops answers =
+      Some l ≡ after.source.left → (before.sink.held_back ≡ 0 → after.sink.held_back ≡ 0) → StopsIn why p l → AnswersBy given status first s (length (turns_of given first goes.played goes.last)) (Some l) →
+      ((n : ℕ) → length (turns_of given first goes.played goes.last) ≤ n → after.probes ≤ before.probes + lines_cost given first (take (n + 1) (script s))) → Plays given status first s before after
+  plays-stop status why s p l ended setting refused before after goes left_is passed stops answers asks =
       record {
         replies =
             replies-whole (play given first s) (turns_of given first goes.played goes.last) (play later setting p) before.sink after.sink (turns-are s p ended setting refused before.sink after.sink goes) goes.written
@@ -251,15 +258,17 @@ module _ (given later : Given) (first : Setting) where
         whole = λ _. refl;
         prompt = subst (λ (o : Option (List ℕ)). AnswersPromptly given first s (length (turns_of given first goes.played goes.last)) o) left_is (prompt-stop s p ended setting refused before.sink after.sink goes why l ended refl stops);
         answers = subst (λ (o : Option (List ℕ)). AnswersBy given status first s (length (turns_of given first goes.played goes.last)) o) left_is answers;
+        asks = asks (length (turns_of given first goes.played goes.last)) (omega arith);
       }
 
   -- a crash leaves what was answered then
   pub played-stop : (stood : Type 0) (image : List ℕ → Type 0) (status why : Status) (s p l : List ℕ) (ended : Bool) (setting : Setting) (refused : Bool) (before after : Outside) (goes : Goes given later first s p ended setting refused before.sink after.sink) →
       Some l ≡ after.source.left → (before.sink.held_back ≡ 0 → after.sink.held_back ≡ 0) → StopsIn why p l → AnswersBy given status first s (length (turns_of given first goes.played goes.last)) (Some l) →
+      ((n : ℕ) → length (turns_of given first goes.played goes.last) ≤ n → after.probes ≤ before.probes + lines_cost given first (take (n + 1) (script s))) →
       (stood → (c : List ℕ) → image c → Holds (IsTreeOfAnswered (stored first.state) (play given first s) (length (turns_of given first goes.played goes.last))) c) →
       (stood → IsFinished status → (c : List ℕ) → image c → held c ≡ Ok (stored_setting (left_by first (play given first s)))) → Played false given status first s before after stood image
-  played-stop stood image status why s p l ended setting refused before after goes left_is passed stops answers answered kept =
-      record { plays = plays-stop status why s p l ended setting refused before after goes left_is passed stops answers; reopens = answered; kept = kept }
+  played-stop stood image status why s p l ended setting refused before after goes left_is passed stops answers asks answered kept =
+      record { plays = plays-stop status why s p l ended setting refused before after goes left_is passed stops answers asks; reopens = answered; kept = kept }
 
   answers-finished : (refused : Bool) (s : List ℕ) (done : ℕ) (left : Option (List ℕ)) → AnswersAll given (finished_status refused) first s done left → AnswersBy given (finished_status refused) first s done left
   answers-finished true s done left all = all
@@ -279,24 +288,26 @@ module _ (given later : Given) (first : Setting) where
 
   -- the script has ended
   pub played-end : (stood : Type 0) (image : List ℕ → Type 0) (s p l behind : List ℕ) (taken : ℕ) (ended : Bool) (setting : Setting) (refused : Bool) (before after : Outside) (goes : Goes given later first s p ended setting refused before.sink after.sink) →
-      Some l ≡ after.source.left → (before.sink.held_back ≡ 0 → after.sink.held_back ≡ 0) → (p ≡ []) × (behind ++ l ≡ []) → taken + length l ≡ 0 + length s → taken ≤ SCRIPT_LIMIT → (stood → (c : List ℕ) → image c → held c ≡ Ok (stored_setting setting)) →
+      Some l ≡ after.source.left → (before.sink.held_back ≡ 0 → after.sink.held_back ≡ 0) → (p ≡ []) × (behind ++ l ≡ []) → taken + length l ≡ 0 + length s → taken ≤ SCRIPT_LIMIT →
+      ((n : ℕ) → length (turns_of given first goes.played goes.last) ≤ n → after.probes ≤ before.probes + lines_cost given first (take (n + 1) (script s))) → (stood → (c : List ℕ) → image c → held c ≡ Ok (stored_setting setting)) →
       Played false given (finished_status refused) first s before after stood image
-  played-end stood image s p l behind taken ended setting refused before after goes left_is passed none total within stands =
+  played-end stood image s p l behind taken ended setting refused before after goes left_is passed none total within asks stands =
       let done = turns_of given first goes.played goes.last in
       let nothing : l ≡ [] = no_rest behind l none.1 in
       let all : play given first s ≡ turns_of given first goes.played goes.last = all-turns s p ended setting refused before.sink after.sink goes none.0 in
       let answers : AnswersAll given (finished_status refused) first s (length (turns_of given first goes.played goes.last)) (Some l) =
       record { read = ap Some nothing; within = omega (arith, total, within, ap length nothing); status_is = ap finished_status (goes.refused_is ∙ ap has_refusal (sym all)); all = ap length (sym all) } in
-      played-stop stood image (finished_status refused) Memory s p l ended setting refused before after goes left_is passed (nothing-stops p l (none.0 ∙ sym nothing)) (answers-finished refused s (length done) (Some l) answers)
+      played-stop stood image (finished_status refused) Memory s p l ended setting refused before after goes left_is passed (nothing-stops p l (none.0 ∙ sym nothing)) (answers-finished refused s (length done) (Some l) answers) asks
       (λ stood_now c left. answered-held s p ended setting refused before.sink after.sink goes c (stands stood_now c left))
       (λ stood_now _ c left. stands stood_now c left ∙ ap (λ (z : Setting). Ok (stored_setting z)) (left-end s p ended setting refused before.sink after.sink goes none.0))
 
   -- the sink failed while a line was answered, whose events were stored before
   pub played-cut : (stood : Type 0) (image : List ℕ → Type 0) (s p l behind : List ℕ) (line : TakenLine) (new_ended : Bool) (setting : Setting) (refused : Bool) (mid : SinkSeen) (before after : Outside) →
-      Goes given later first s p false setting refused before.sink mid → Some l ≡ after.source.left → (before.sink.held_back ≡ 0 → mid.held_back ≡ 0) → GivesTaken line new_ended p (behind ++ l) → length behind < piece_size →
+      (goes : Goes given later first s p false setting refused before.sink mid) → Some l ≡ after.source.left → (before.sink.held_back ≡ 0 → mid.held_back ≡ 0) → GivesTaken line new_ended p (behind ++ l) → length behind < piece_size →
+      ((n : ℕ) → length (turns_of given first goes.played goes.last) ≤ n → after.probes ≤ before.probes + lines_cost given first (take (n + 1) (script s))) →
       WritesSome mid after.sink (turns_text (turns later setting (items_of_taken line))) → (stood → (c : List ℕ) → image c → Holds (λ now. now ≡ apply_all (stored setting.state) (command_events (turns later setting (items_of_taken line)))) c) →
       Played false given WriteFault first s before after stood image
-  played-cut stood image s p l behind line new_ended setting refused mid before after goes left_is passed gives near some was_stored =
+  played-cut stood image s p l behind line new_ended setting refused mid before after goes left_is passed gives near asks some was_stored =
       let now = turns later setting (items_of_taken line) in
       let done = turns_of given first goes.played goes.last in
       let rest = play (given_after later now) (left_by setting now) (behind ++ l) in
@@ -341,6 +352,7 @@ module _ (given later : Given) (first : Setting) where
           whole = λ no_write. absurd (no_write refl);
           prompt = subst (λ (o : Option (List ℕ)). AnswersPromptly given first s stopped.replies.done o) left_is prompt;
           answers = tt;
+          asks = asks stopped.replies.done (behind-done stopped.replies.done done now stopped.place);
         };
         reopens = λ stands c left.
             let holds = was_stored stands c left in
@@ -390,6 +402,22 @@ module _ (given later : Given) (first : Setting) where
   open-goes s p true setting refused before now goes line new_ended q gives = absurd (omega (arith, gives.some, ap length gives.bytes_are, length-append gives.own q, ap length (goes.line_is.last refl)))
   open-goes s p false setting refused before now goes line new_ended q gives = goes
 
+  -- a sink that is as before has what was written
+  abbrev pub goes-same : (s p : List ℕ) (ended : Bool) (setting : Setting) (refused : Bool) (before now after : SinkSeen) → Goes given later first s p ended setting refused before now → after ≡ now →
+      Goes given later first s p ended setting refused before after
+  goes-same s p ended setting refused before now after goes same =
+      record {
+        played = goes.played;
+        last = goes.last;
+        script_is = goes.script_is;
+        lines = goes.lines;
+        line_is = goes.line_is;
+        given_is = goes.given_is;
+        left_is = goes.left_is;
+        written = subst (λ (k : SinkSeen). Appends before.written k.written (turns_text (turns_of given first goes.played goes.last))) (sym same) goes.written;
+        refused_is = goes.refused_is;
+      }
+
   -- no line was answered yet
   abbrev pub goes-first : (s : List ℕ) (refused : Bool) (sink : SinkSeen) → later ≡ given → refused ≡ false → Goes given later first s s false first refused sink sink
   goes-first s refused sink same unrefused =
@@ -409,11 +437,12 @@ module _ (given later : Given) (first : Setting) where
 module _ (given later : Given) (first : Setting) where
   -- a run that stops behind the reply to a line, at the steps that follow it
   pub played-behind : (stood : Type 0) (image : List ℕ → Type 0) (status : Status) (s p l behind : List ℕ) (line : TakenLine) (new_ended : Bool) (setting : Setting) (refused : Bool) (mid : SinkSeen) (before after : Outside) →
-      Goes given later first s p false setting refused before.sink mid → Some l ≡ after.source.left → (before.sink.held_back ≡ 0 → after.sink.held_back ≡ 0) → GivesTaken line new_ended p (behind ++ l) → length behind < piece_size →
+      (goes : Goes given later first s p false setting refused before.sink mid) → Some l ≡ after.source.left → (before.sink.held_back ≡ 0 → after.sink.held_back ≡ 0) → GivesTaken line new_ended p (behind ++ l) → length behind < piece_size →
+      ((n : ℕ) → length (turns_of given first goes.played goes.last) ≤ n → after.probes ≤ before.probes + lines_cost given first (take (n + 1) (script s))) →
       Appends mid.written after.sink.written (turns_text (turns later setting (items_of_taken line))) → ((done : ℕ) → AnswersBy given status first s done (Some l)) → (IsFinished status → ⊥) →
       (stood → (c : List ℕ) → image c → Holds (IsTreeOfAnswered (stored setting.state) (turns later setting (items_of_taken line)) (length (turns later setting (items_of_taken line)))) c) →
       Played false given status first s before after stood image
-  played-behind stood image status s p l behind line new_ended setting refused mid before after goes left_is passed gives near written answers unfinished some =
+  played-behind stood image status s p l behind line new_ended setting refused mid before after goes left_is passed gives near asks written answers unfinished some =
       let now = turns later setting (items_of_taken line) in
       let done = turns_of given first goes.played goes.last in
       let rest = play (given_after later now) (left_by setting now) (behind ++ l) in
@@ -424,6 +453,7 @@ module _ (given later : Given) (first : Setting) where
       let count = length (turns_of given first (goes.played ++ goes.last) gives.own) in
       played-stop given (given_after later now) first stood image status Memory s (behind ++ l) l new_ended (left_by setting now) (refused || has_refusal now) before after
       (goes-on given later first s p (behind ++ l) line new_ended setting refused before.sink mid after.sink goes gives written) left_is passed (behind-stops behind l near) (answers count)
+      (λ n few. asks n (omega (arith, few, ap length more, length-append done now)))
       (λ stands c left.
       holds-weaker (IsTreeOfAnswered (stored setting.state) now (length now)) (IsTreeOfAnswered (stored first.state) (play given first s) count) c
       (λ t tree.

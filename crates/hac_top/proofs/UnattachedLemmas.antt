@@ -8,6 +8,7 @@ use Rattle.hac_model.specs.Run.Play.{Given, Setting}
 use Rattle.hac_model.specs.Script.CommandLine.{Options, Space}
 use Rattle.hac_outside.specs.Causes.{ReportsFault}
 use Rattle.hac_store.specs.Held.{held}
+use Rattle.hac_store.specs.Loading.{loading}
 use Rattle.sem_mounts.specs.Seen.{CountsFault, SpacesSeen, is_attach_failed}
 use Rattle.hac_top.specs.Asking.{IfTold, StayAttached}
 use Rattle.sem_mounts.specs.declared.faults.AttachFault.{AttachFault}
@@ -15,7 +16,7 @@ use Rattle.sem_mounts.specs.declared.faults.AttachFault.TheVariants as attach
 use Rattle.hac_top.specs.Attaching.{AttachesStore, LeavesAttached, MayAttach}
 use Rattle.hac_top.specs.Crashes.{IsOfFile, StopsOpening, opening_outcome}
 use Rattle.hac_top.specs.Ends.{IsOpenStatus, IsStoreStatus, is_bad_space, is_disk_fault}
-use Rattle.hac_top.specs.Run.{Ends, EndsSo, IfOpened, IfOpens, Outside, Ran, TakesWithin}
+use Rattle.hac_top.specs.Run.{Ends, EndsSo, IfOpened, IfOpens, Outside, Ran, TakesWithin, once_open}
 use Rattle.hac_top.specs.Spaces.{HasAttached, LeavesSpaces, StopsAttaching, attach_status}
 use Rattle.hac_top.specs.declared.status.Status.{Status}
 use Rattle.hac_top.specs.declared.status.Status.TheVariants.{Usage, WriteFault, DiskFault, Memory, BadSpace}
@@ -129,11 +130,11 @@ ran-more fresh given status setting script before after settled image leaves les
 -- what holds of a run that goes on from a store, once its spaces were attached and given another premise
 pub ran-given : (fresh : Bool) (tick : ℕ) (status : Status) (before after : Outside) (settled : Type 0) (image : List ℕ → Type 0) (leaves : (List ℕ → Type 0) → Type 0) (less more : Type 0) → (more → less) →
     (old mid new : SpacesSeen) → mid.faults ≡ old.faults → (seen left : Option (List ℕ)) →
-    IfSome seen (λ file. IfSome left (λ script. IfOk (opening_outcome fresh (held file)) (λ setting. IfTold mid new tick setting script (λ given. Ran fresh given status setting script before after settled image leaves less)))) →
-    IfSome seen (λ file. IfSome left (λ script. IfOk (opening_outcome fresh (held file)) (λ setting. IfTold old new tick setting script (λ given. Ran fresh given status setting script before after settled image leaves more))))
+    IfSome seen (λ file. IfSome left (λ script. IfOk (opening_outcome fresh (held file)) (λ setting. IfTold mid new tick setting script (λ given. Ran fresh given status setting script (once_open (loading file) before) after settled image leaves less)))) →
+    IfSome seen (λ file. IfSome left (λ script. IfOk (opening_outcome fresh (held file)) (λ setting. IfTold old new tick setting script (λ given. Ran fresh given status setting script (once_open (loading file) before) after settled image leaves more))))
 ran-given fresh tick status before after settled image leaves less more leads old mid new same seen left ran =
-    told-given fresh tick (λ given setting script. Ran fresh given status setting script before after settled image leaves less) (λ given setting script. Ran fresh given status setting script before after settled image leaves more)
-    (λ given setting script. ran-more fresh given status setting script before after settled image leaves less more leads) old mid new same seen left ran
+    told-given fresh tick (λ opening given setting script. Ran fresh given status setting script (once_open opening before) after settled image leaves less) (λ opening given setting script. Ran fresh given status setting script (once_open opening before) after settled image leaves more)
+    (λ opening given setting script. ran-more fresh given status setting script (once_open opening before) after settled image leaves less more leads) old mid new same seen left ran
 
 -- a space that couldn't be attached was counted, and no fault was before it
 pub stopped-later : (files : List Space) (old new : SpacesSeen) (status : Status) → StopsAttaching files old new status → old.faults ≤ new.faults
@@ -160,38 +161,38 @@ module _ {D : Type 0} (seen : D → Option (List ℕ)) (image : D → List ℕ �
 
   -- it answers nothing of the script, and a crash leaves what it would have gone on from
   pub ran-unattached : (faultless : Type 0) (status : Status) → IsUnattached status → (faultless → is_bad_space status ≡ true → ⊥) → (asked : Options) (disk : D) (before : Outside) (old new : SpacesSeen) → old.faults ≤ new.faults →
-      IfOpened asked (seen disk) before.source.left (λ setting script. IfTold old new asked.tick setting script (λ given. Ran asked.fresh given status setting script before before
+      IfOpened asked (seen disk) before.source.left (λ opens setting script. IfTold old new asked.tick setting script (λ given. Ran asked.fresh given status setting script (once_open opens before) before
       (IsSettled (seen disk) (image disk)) (image disk) (LeavesOnly moment image_since disk disk) faultless))
   ran-unattached faultless status un good asked disk before old new later = of-file (seen disk) (opens-quiet seen image moment image_since only_now asked.fresh (seen disk) disk disk (untouched disk))
     where
       settled : Type 0
       settled = IsSettled (seen disk) (image disk)
 
-      says : Setting → List ℕ → Type 0
-      says setting script = IfTold old new asked.tick setting script (λ given. Ran asked.fresh given status setting script before before settled (image disk) (LeavesOnly moment image_since disk disk) faultless)
+      says : ℕ → Setting → List ℕ → Type 0
+      says opens setting script = IfTold old new asked.tick setting script (λ given. Ran asked.fresh given status setting script (once_open opens before) before settled (image disk) (LeavesOnly moment image_since disk disk) faultless)
 
-      one : (given : Given) (status : Status) → IsUnattached status → (faultless → is_bad_space status ≡ true → ⊥) → (setting : Setting) (script : List ℕ) → Some script ≡ before.source.left →
+      one : (opens : ℕ) (given : Given) (status : Status) → IsUnattached status → (faultless → is_bad_space status ≡ true → ⊥) → (setting : Setting) (script : List ℕ) → Some script ≡ before.source.left →
           Opening seen image moment image_since attached faults asked.fresh settled disk disk setting →
-          Ran asked.fresh given status setting script before before settled (image disk) (LeavesOnly moment image_since disk disk) faultless
-      one given (BadSpace which line) un good setting script left_is opening =
-          ran-none seen image moment image_since attached faults counts_now asked.fresh asked.tick settled disk disk before given faultless (BadSpace which line) setting script left_is opening (λ done. tt) (λ never. never)
+          Ran asked.fresh given status setting script (once_open opens before) before settled (image disk) (LeavesOnly moment image_since disk disk) faultless
+      one opens given (BadSpace which line) un good setting script left_is opening =
+          ran-none seen image moment image_since attached faults counts_now asked.fresh asked.tick settled disk disk (once_open opens before) before.probes given faultless (BadSpace which line) setting script left_is (omega arith) opening (λ done. tt) (λ never. never)
           (λ none. absurd (good none refl))
-      one given Memory un good setting script left_is opening =
-          ran-none seen image moment image_since attached faults counts_now asked.fresh asked.tick settled disk disk before given faultless Memory setting script left_is opening (λ done. tt) (λ never. never)
+      one opens given Memory un good setting script left_is opening =
+          ran-none seen image moment image_since attached faults counts_now asked.fresh asked.tick settled disk disk (once_open opens before) before.probes given faultless Memory setting script left_is (omega arith) opening (λ done. tt) (λ never. never)
           (λ _. record { within = λ _. inr refl; past = λ _. inr refl })
-      one given other un good setting script left_is opening = absurd un
+      one opens given other un good setting script left_is opening = absurd un
 
-      at : (outcome : Result Setting Status) (script : List ℕ) → Some script ≡ before.source.left → IfOk outcome (Opening seen image moment image_since attached faults asked.fresh settled disk disk) → IfOk outcome (λ setting. says setting script)
-      at (Err wanted) script left_is opening = search rules
-      at (Ok setting) script left_is opening = told-none old new asked.tick setting script (λ given. Ran asked.fresh given status setting script before before settled (image disk) (LeavesOnly moment image_since disk disk) faultless) later (λ given. one given status un good setting script left_is opening)
+      at : (opens : ℕ) (outcome : Result Setting Status) (script : List ℕ) → Some script ≡ before.source.left → IfOk outcome (Opening seen image moment image_since attached faults asked.fresh settled disk disk) → IfOk outcome (λ setting. says opens setting script)
+      at opens (Err wanted) script left_is opening = search rules
+      at opens (Ok setting) script left_is opening = told-none old new asked.tick setting script (λ given. Ran asked.fresh given status setting script (once_open opens before) before settled (image disk) (LeavesOnly moment image_since disk disk) faultless) later (λ given. one opens given status un good setting script left_is opening)
 
       of-left : (file : List ℕ) (left : Option (List ℕ)) → left ≡ before.source.left → IfOk (opening_outcome asked.fresh (held file)) (Opening seen image moment image_since attached faults asked.fresh settled disk disk) →
-          IfSome left (λ script. IfOk (opening_outcome asked.fresh (held file)) (λ setting. says setting script))
+          IfSome left (λ script. IfOk (opening_outcome asked.fresh (held file)) (λ setting. says (loading file) setting script))
       of-left file None left_is opening = search rules
-      of-left file (Some script) left_is opening = at (opening_outcome asked.fresh (held file)) script left_is opening
+      of-left file (Some script) left_is opening = at (loading file) (opening_outcome asked.fresh (held file)) script left_is opening
 
       of-file : (file : Option (List ℕ)) → IfSome file (λ f. IfOk (opening_outcome asked.fresh (held f)) (Opening seen image moment image_since attached faults asked.fresh settled disk disk)) →
-          IfSome file (λ f. IfSome before.source.left (λ script. IfOk (opening_outcome asked.fresh (held f)) (λ setting. says setting script)))
+          IfSome file (λ f. IfSome before.source.left (λ script. IfOk (opening_outcome asked.fresh (held f)) (λ setting. says (loading f) setting script)))
       of-file None opening = search rules
       of-file (Some f) opening = of-left f before.source.left refl opening
 
@@ -202,7 +203,7 @@ module _ {D : Type 0} (seen : D → Option (List ℕ)) (image : D → List ℕ �
   memory-quiet (Some asked) disk input output = unattached-quiet Memory tt asked.fresh disk input output (seen disk)
 
   pub memory-ran : (faultless : Options → Type 0) (asked : Option Options) (disk : D) (before : Outside) (spaces : SpacesSeen) →
-      IfOpens asked (seen disk) before.source.left (λ asked setting script. IfTold spaces spaces asked.tick setting script (λ given. Ran asked.fresh given Memory setting script before before
+      IfOpens asked (seen disk) before.source.left (λ asked opens setting script. IfTold spaces spaces asked.tick setting script (λ given. Ran asked.fresh given Memory setting script (once_open opens before) before
       (IsSettled (seen disk) (image disk)) (image disk) (LeavesOnly moment image_since disk disk) (faultless asked)))
   memory-ran faultless None disk before spaces = search rules
   memory-ran faultless (Some asked) disk before spaces = λ _. ran-unattached (faultless asked) Memory tt (λ _ never. cc) asked disk before spaces spaces (omega arith)

@@ -1,5 +1,5 @@
 -- A run that draws its script from a number, and then tells what that left.
-use Rattle.std.specs.Prelude.{◌≡◌, ℕ, Bool, false, List, [], ◌∷◌, Option, Some, Result, Ok, Err}
+use Rattle.std.specs.Prelude.{◌≡◌, ◌≤◌, ℕ, Bool, false, List, [], ◌∷◌, Option, Some, Result, Ok, Err}
 use Rattle.std.specs.Option.{IfSome}
 use Rattle.hac_outside.specs.Causes.{ReportsFault}
 use Rattle.hac_outside.specs.Seen.{SinkSeen}
@@ -41,7 +41,7 @@ Tells SomeRefused status s before after = TellsEnd SomeRefused status s before a
 Tells played status s before after = (status ≡ played) × (after ≡ before)
 
 -- The script of a number was played to some end, from a source that had it and to a sink, which both are the run's own and
--- didn't fail. Nothing was taken of the source that the run was given.
+-- didn't fail. Nothing was taken of the source that the run was given. All terms that were asked of items were asked so.
 pub record Makes (number : ℕ) (before after : Outside) (Says : Status → Outside → Outside → Type 0) : Type 0 where
   pub played : Status
   pub own : Outside
@@ -50,6 +50,8 @@ pub record Makes (number : ℕ) (before after : Outside) (Says : Status → Outs
   pub reads : own_after.source.faults ≡ own.source.faults
   pub writes : own_after.sink.faults ≡ own.sink.faults
   pub unread : after.source ≡ before.source
+  pub begins : own.probes ≡ before.probes
+  pub asks : after.probes ≤ own_after.probes
   pub says : Says played own own_after
 
 -- the words, if they are known, and the number from which the script is to be drawn, where they have one
@@ -60,13 +62,15 @@ IfMakes words P = IfSome words (λ asked. IfSome asked.make (P asked))
 pub record PlaysMade {D : Type 0} (seen : D → Option (List ℕ)) (image : D → List ℕ → Type 0)
     (moment : D → ℕ) (image_since : D → ℕ → List ℕ → Type 0)
     (attached : D → Option (List (List ℕ × Bool))) (faults : D → ℕ) (old new : D)
-    (tick : ℕ) (setting : Setting) (number : ℕ) (spaces left : SpacesSeen)
+    (tick : ℕ) (setting : Setting) (number : ℕ) (spaces left : SpacesSeen) (probes probes_now : ℕ)
     (result : Result Bool Status) (kept : Setting) : Type 0 where
   pub own : Outside
   pub own_after : Outside
   pub script_is : own.source.left ≡ Some (generated number)
   pub reads : own_after.source.faults ≡ own.source.faults
   pub writes : own_after.sink.faults ≡ own.sink.faults
+  pub begins : own.probes ≡ probes
+  pub asks : probes_now ≤ own_after.probes
   pub unread : is_read_fault (end_status result) ≡ false
   pub unwritten : is_write_fault (end_status result) ≡ false
   pub on : PlaysOn seen image moment image_since attached faults old new tick setting own own_after spaces left result kept
@@ -82,13 +86,16 @@ TellsLeft (Ok refused) (Err status) s before after = StopsWriting status before 
 pub record MakesStore {D : Type 0} (seen : D → Option (List ℕ)) (image : D → List ℕ → Type 0)
     (moment : D → ℕ) (image_since : D → ℕ → List ℕ → Type 0)
     (attached : D → Option (List (List ℕ × Bool))) (faults : D → ℕ) (old new : D)
-    (tick : ℕ) (setting : Setting) (number : ℕ) (before after : SinkSeen) (spaces left : SpacesSeen) (status : Status) : Type 0 where
+    (tick : ℕ) (setting : Setting) (number : ℕ) (before after : SinkSeen) (spaces left : SpacesSeen)
+    (probes probes_now : ℕ) (status : Status) : Type 0 where
   pub played : Status
   pub own : Outside
   pub own_after : Outside
   pub script_is : own.source.left ≡ Some (generated number)
   pub reads : own_after.source.faults ≡ own.source.faults
   pub writes : own_after.sink.faults ≡ own.sink.faults
+  pub begins : own.probes ≡ probes
+  pub asks : probes_now ≤ own_after.probes
   pub plays : PlaysStore seen image moment image_since attached faults old new tick setting own own_after spaces left played
   pub tells : IfSome spaces.contents (λ contents.
       Tells played status (left_by setting (play (given_by contents plays.met tick) setting (generated number))).state before after)

@@ -7,6 +7,7 @@ use Rattle.hac_outside.specs.Known.{Known}
 use Rattle.hac_outside.specs.Seen.{SourceSeen, SinkSeen}
 use Rattle.hac_disk.specs.Images.{LeavesOnly}
 use Rattle.hac_model.specs.Script.CommandLine.{Options}
+use Rattle.hac_model.specs.Run.Costs.{lines_cost}
 use Rattle.hac_model.specs.Run.Play.{AreAskable, Given, Setting, Turn, all_events, given_behind, has_refusal, left_by, play, stored_setting, turns}
 use Rattle.hac_model.specs.Tree.Sessions.{stored}
 use Rattle.hac_model.specs.Script.Printed.{ended}
@@ -14,6 +15,7 @@ use Rattle.hac_model.specs.Script.{after_item, first_items, script, whole}
 use Rattle.hac_model.specs.declared.limits.TheConstants.{SCRIPT_LIMIT}
 use Rattle.hac_model.specs.declared.states.State.{State}
 use Rattle.hac_store.specs.Held.{held}
+use Rattle.hac_store.specs.Loading.{loading}
 use Rattle.hac_store.specs.Stores.{IsHeldAs, Stands}
 use Rattle.hac_top.specs.Crashes.{Holds, IsTreeAfter, IsTreeOfAnswered, Reopens, opening_outcome}
 use Rattle.hac_top.specs.Ends.{IsFinished, IsOpenStatus, end_status, finished_status, is_bad_space, is_disk_fault, is_read_fault, is_write_fault}
@@ -24,13 +26,18 @@ use Rattle.hac_top.specs.declared.status.Status.{Status}
 use Rattle.hac_top.specs.declared.status.Status.TheVariants.{Done, SomeRefused, Usage, ReadFault, WriteFault, DiskFault, Memory, TooLong}
 use Rattle.shell_lang.specs.Reading.{piece_size}
 
--- what a run works on, as it is seen
+-- what a run works on, as it is seen, and how many questions for terms it has asked
 pub record Outside : Type 0 where
   pub source : SourceSeen
   pub sink : SinkSeen
+  pub probes : ℕ
 
-abbrev pub outside : SourceSeen → SinkSeen → Outside
-outside source sink = record { source = source; sink = sink }
+abbrev pub outside : SourceSeen → SinkSeen → ℕ → Outside
+outside source sink probes = record { source = source; sink = sink; probes = probes }
+
+-- the same once a store is open, where opening it may take so many questions
+abbrev pub once_open : ℕ → Outside → Outside
+once_open opening before = record before { probes = before.probes + opening }
 
 -- what is written where the words of the program are none that it takes
 abbrev pub usage_line : List ℕ
@@ -114,13 +121,14 @@ AnswersBy given TooLong setting script done left = AnswersWithin given setting s
 AnswersBy given other setting script done left = ⊤
 
 -- However the run ends, the replies are those of the plain tree, none ahead of time and none late. A reply is cut off
--- only where the sink failed.
-pub record Plays (given : Given) (status : Status) (setting : Setting) (script : List ℕ)
+-- only where the sink failed. No more is asked than the lines may take that were answered, and the one in hand.
+pub record Plays (given : Given) (status : Status) (setting : Setting) (bytes : List ℕ)
     (before after : Outside) : Type 0 where
-  pub replies : WritesReplies (play given setting script) before.sink after.sink
+  pub replies : WritesReplies (play given setting bytes) before.sink after.sink
   pub whole : (status ≡ WriteFault → ⊥) → replies.cut ≡ []
-  pub prompt : AnswersPromptly given setting script replies.done after.source.left
-  pub answers : AnswersBy given status setting script replies.done after.source.left
+  pub prompt : AnswersPromptly given setting bytes replies.done after.source.left
+  pub answers : AnswersBy given status setting bytes replies.done after.source.left
+  pub asks : after.probes ≤ before.probes + lines_cost given setting (take (replies.done + 1) (script bytes))
 
 -- How a script is played from a store. Its replies are those of the plain tree. Where nothing was pending on
 -- the disk as it began, a crash leaves the tree with the events of each answered command, and at most those of the
@@ -194,15 +202,16 @@ pub record Ran (fresh : Bool) (given : Given) (status : Status) (setting : Setti
       Holds (IsTreeOf given setting script) c
   pub complete : faultless → Completes status script
 
--- the file and the script, if they are known, and what the run then goes on from
-abbrev pub IfOpened : Options → Option (List ℕ) → Option (List ℕ) → (Setting → List ℕ → Type 0) → Type 0
+-- the file and the script, if they are known, how many questions opening the store may take, and what the run then goes
+-- on from
+abbrev pub IfOpened : Options → Option (List ℕ) → Option (List ℕ) → (ℕ → Setting → List ℕ → Type 0) → Type 0
 IfOpened asked seen left P =
     IfSome seen (λ file. IfSome left (λ script.
-    IfOk (opening_outcome asked.fresh (held file)) (λ setting. P setting script)))
+    IfOk (opening_outcome asked.fresh (held file)) (λ setting. P (loading file) setting script)))
 
 -- the same of words, if they are known, that ask for no drawn script
 abbrev pub IfOpens : Option Options → Option (List ℕ) → Option (List ℕ) →
-    (Options → Setting → List ℕ → Type 0) → Type 0
+    (Options → ℕ → Setting → List ℕ → Type 0) → Type 0
 IfOpens words seen left P = IfSome words (λ asked. asked.make ≡ None → IfOpened asked seen left (P asked))
 
 -- no call of the source, the sink or the disk failed, given the faults of the disk

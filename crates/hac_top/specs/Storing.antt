@@ -1,13 +1,15 @@
 -- What becomes of a store and of its disk as turns are stored and answered.
-use Rattle.std.specs.Prelude.{◌≡◌, ◌⊎◌, ◌||◌, ◌≤◌, ⊤, ℕ, Bool, false, List, [], ◌∷◌, length, Option, Result, Ok, Err, IfOk, IfErr, OnOk}
+use Rattle.std.specs.Prelude.{◌≡◌, ◌⊎◌, ◌||◌, ◌≤◌, ◌+◌, ⊤, ℕ, Bool, false, List, [], ◌∷◌, length, Option, Result, Ok, Err, IfOk, IfErr, OnOk}
 use Rattle.std.specs.Option.{IfSome}
 use Rattle.hac_disk.specs.Images.{LeavesOnly}
 use Rattle.hac_outside.specs.Causes.{ReportsFault}
 use Rattle.hac_outside.specs.Seen.{SinkSeen}
+use Rattle.hac_model.specs.Run.Costs.{answering_line, lines_cost}
 use Rattle.hac_model.specs.Run.Play.{AreAskable, MayFail, Setting, Turn, after_events, all_events, has_refusal, item_turn, left_by, turns, turns_text}
 use Rattle.hac_model.specs.Script.Lines.{Item}
 use Rattle.sem_mounts.specs.Seen.{Contents, SpacesSeen}
 use Rattle.hac_top.specs.Asking.{HaveAsked, given_by}
+use Rattle.hac_model.specs.Tree.Costs.{costs}
 use Rattle.hac_model.specs.Tree.Events.{apply_all}
 use Rattle.hac_model.specs.Tree.Sessions.{stored}
 use Rattle.hac_model.specs.declared.events.Event.{Event}
@@ -138,36 +140,40 @@ pub record IsTurnOf (contents : Contents) (fault : Option (List ℕ)) (setting :
   pub may : MayFail (given_by contents (fault ∷ []) 0) setting.state item fault
 
 -- What storing a line does: the spaces were asked, and then a turn was stored. It is that of the line where the contents
--- of the spaces are told.
+-- of the spaces are told. No more terms are asked of items than the line's data lines and the turn's events may take.
 pub record StoresItem {D : Type 0} (seen : D → Option (List ℕ)) (image : D → List ℕ → Type 0)
     (moment : D → ℕ) (image_since : D → ℕ → List ℕ → Type 0)
     (attached : D → Option (List (List ℕ × Bool))) (faults : D → ℕ) (old new : D) (spaces left : SpacesSeen)
-    (before after : Seen) (item : Item) (result : Result Reply Status) : Type 0 where
+    (before after : Seen) (item : Item) (probes probes_now : ℕ) (result : Result Reply Status) : Type 0 where
   pub fault : Option (List ℕ)
   pub asked : HaveAsked spaces left (fault ∷ [])
   pub turn : Turn
   pub bare : IsBare before.setting turn
   pub told : IfSome spaces.contents (λ contents. IsTurnOf contents fault before.setting item turn)
   pub stores : StoresTurn seen image moment image_since attached faults old new before after turn result
+  pub asks : probes_now ≤ probes + (answering_line before.setting.state item + costs before.setting.state turn.events)
 
--- these are the turns of lines, whose commands met these faults
-pub record AreTurns (contents : Contents) (met : List (Option (List ℕ))) (tick : ℕ) (setting : Setting) (items : List Item) (answered : List Turn) : Type 0 where
+-- these are the turns of lines, whose commands met these faults; no more terms are asked than the lines may take
+pub record AreTurns (contents : Contents) (met : List (Option (List ℕ))) (tick : ℕ) (setting : Setting) (items : List Item) (answered : List Turn)
+    (probes probes_now : ℕ) : Type 0 where
   pub are : answered ≡ turns (given_by contents met tick) setting items
   pub count : length met ≡ length items
   pub askable : AreAskable (given_by contents met tick) setting items
+  pub asks : probes_now ≤ probes + lines_cost (given_by contents met tick) setting items
 
 -- What answering the lines of a piece does: at most one turn was answered, or its answer stopped. It is that of the
 -- piece where the contents of the spaces are told.
 pub record AnswersItems {D : Type 0} (seen : D → Option (List ℕ)) (image : D → List ℕ → Type 0)
     (moment : D → ℕ) (image_since : D → ℕ → List ℕ → Type 0)
     (attached : D → Option (List (List ℕ × Bool))) (faults : D → ℕ) (old new : D) (spaces left : SpacesSeen) (tick : ℕ)
-    (before after : Seen) (sink sink_after : SinkSeen) (items : List Item) (was now : Bool) (result : Result Unit Status) : Type 0 where
+    (before after : Seen) (sink sink_after : SinkSeen) (items : List Item) (was now : Bool) (probes probes_now : ℕ)
+    (result : Result Unit Status) : Type 0 where
   pub met : List (Option (List ℕ))
   pub asked : HaveAsked spaces left met
   pub answered : List Turn
   pub few : length answered ≤ 1
   pub leads : stored (left_by before.setting answered).state ≡ apply_all (stored before.setting.state) (all_events answered)
-  pub told : IfSome spaces.contents (λ contents. AreTurns contents met tick before.setting items answered)
+  pub told : IfSome spaces.contents (λ contents. AreTurns contents met tick before.setting items answered probes probes_now)
   pub refused : OnOk result (now ≡ (was || has_refusal answered))
   pub ok : OnOk result (AnswersLine seen image moment image_since attached faults old new before after sink sink_after answered)
   pub err : IfErr result (StopsAnswer seen image moment image_since attached faults old new before.setting sink sink_after answered)

@@ -1,12 +1,13 @@
 //! Answering: what a line changes is stored, then its reply is written and flushed, and behind it
 //! the index steps are stored that follow each command by themselves.
-ghost use Rattle.std.specs.Prelude.{◌≡◌, ◌||◌, ◌∷◌, [], false, IfErr, OnErr, OnOk};
+ghost use Rattle.std.specs.Prelude.{◌≡◌, ◌||◌, ◌+◌, ◌≤◌, ◌∷◌, [], false, IfErr, OnErr, OnOk};
 ghost use Rattle.std.specs.Io.KnownBytes.{Appends};
 ghost use Rattle.hac_outside.specs.Causes.{HasCause};
 ghost use Rattle.hac_outside.specs.Seen.{WritesSome};
-ghost use Rattle.hac_model.specs.Run.Play.{is_refused};
+ghost use Rattle.hac_model.specs.Run.Play.{is_refused, steps_behind};
 ghost use Rattle.hac_model.specs.Script.Lines.{item_taken};
 ghost use Rattle.hac_model.specs.Script.Printed.{text};
+ghost use Rattle.hac_model.specs.Tree.Costs.{costs};
 ghost use Rattle.hac_store.specs.Stores.{Bears};
 ghost use Rattle.hac_top.specs.Storing.{AnswersItems, AnswersLine, StopsAnswer};
 ghost use Rattle.hac_top.specs.TakenLines.{items_of_taken};
@@ -56,7 +57,7 @@ impl Player {
         ensures answers { AnswersItems D.seen D.image D.moment D.image_since D.attached D.faults
             disk.old disk.new (P.seen spaces.old) (P.seen spaces.new) self.old.tick
             self.old.store self.new.store (K.seen output.old) (K.seen output.new)
-            (items_of_taken line) self.old.refused self.new.refused result }
+            (items_of_taken line) self.old.refused self.new.refused probes.old probes.new result }
     {
         let TakenLine { piece, taken } = line;
         match piece {
@@ -87,7 +88,8 @@ impl Player {
         ensures answers { AnswersItems D.seen D.image D.moment D.image_since D.attached D.faults
             disk.old disk.new (P.seen spaces.old) (P.seen spaces.new) self.old.tick
             self.old.store self.new.store (K.seen output.old) (K.seen output.new)
-            (item_taken line taken ∷ []) self.old.refused self.new.refused result }
+            (item_taken line taken ∷ []) self.old.refused self.new.refused
+            probes.old probes.new result }
     {
         let reply = store_line(
             self.alloc,
@@ -121,6 +123,8 @@ impl Player {
             D.faults disk.old disk.new self.old.store.setting
             (K.seen output.old) (K.seen output.new)
             (told_turn self.old.tick self.old.store.setting reply ∷ [])) }
+        ensures probes { probes.new ≤ probes.old + costs self.old.store.setting.state
+            (steps_behind self.old.tick self.old.store.setting) }
     {
         self.write_reply(output, reply)?;
         tick(&mut self.store, disk, self.tick, probes)

@@ -1,8 +1,9 @@
 //! Deciding: what a line asks of the tree and of the spaces, before the store is touched.
-ghost use Rattle.std.specs.Prelude.{◌≡◌, List, IfErr, IfOk, IsTrue, None, Ok};
+ghost use Rattle.std.specs.Prelude.{◌≡◌, ◌+◌, ◌≤◌, List, IfErr, IfOk, IsTrue, None, Ok};
 ghost use Rattle.hac_core.specs.Drafts.{IsDraft, IsDraftFor};
 ghost use Rattle.hac_model.specs.declared.resolved.Resolved.{Resolved};
 ghost use Rattle.hac_model.specs.Script.Lines.{is_spelled_line, item_taken};
+ghost use Rattle.hac_model.specs.Run.Costs.{answering, answering_line};
 ghost use Rattle.hac_model.specs.Run.Given.{given_spaces};
 ghost use Rattle.hac_model.specs.Run.Play.{command_turn};
 ghost use Rattle.hac_model.specs.Spaces.Answering.{AreAnswersTo, Attached, answers_of};
@@ -38,8 +39,10 @@ pub fn decide<P: Spaces, L: Ledger>(
     taken: Option<Taken>,
     probes: &mut Steps<L>,
 ) -> Result<Decision, Memory>
-    ensures { DecidesItem (P.seen spaces.old) (P.seen spaces.new) machine.now.state
+    ensures decides { DecidesItem (P.seen spaces.old) (P.seen spaces.new) machine.now.state
         (item_taken line taken) result }
+    ensures probes { probes.new ≤ probes.old
+        + answering_line machine.now.state (item_taken line taken) }
 {
     match parse_line(alloc, line.as_slice(), taken) {
         Ok(line) => decide_line(alloc, machine, spaces, line, probes),
@@ -56,8 +59,9 @@ fn decide_line<P: Spaces, L: Ledger>(
     probes: &mut Steps<L>,
 ) -> Result<Decision, Memory>
     requires { IsTrue (is_spelled_line line) }
-    ensures { DecidesItem (P.seen spaces.old) (P.seen spaces.new) machine.now.state (Ok line)
-        result }
+    ensures decides { DecidesItem (P.seen spaces.old) (P.seen spaces.new) machine.now.state
+        (Ok line) result }
+    ensures probes { probes.new ≤ probes.old + answering_line machine.now.state (Ok line) }
 {
     match machine.check(line) {
         Ok(draft) => decide_draft(alloc, machine, spaces, draft, probes),
@@ -75,7 +79,10 @@ fn decide_draft<P: Spaces, L: Ledger>(
     probes: &mut Steps<L>,
 ) -> Result<Decision, Memory>
     requires { IsDraft machine.now.state draft }
-    ensures { DecidesDraft (P.seen spaces.old) (P.seen spaces.new) machine.now.state draft result }
+    ensures decides { DecidesDraft (P.seen spaces.old) (P.seen spaces.new) machine.now.state draft
+        result }
+    ensures probes { (command : Resolved) → IsDraftFor machine.now.state command draft →
+        probes.new ≤ probes.old + answering machine.now.state command }
 {
     match gather(alloc, spaces, draft.asks()) {
         Ok(answers) => decide_answered(machine, draft, answers, probes),
@@ -109,6 +116,8 @@ fn decide_answered<L: Ledger>(
         first_absent spaces (asked_spaces draft.asks) ≡ None →
         IfOk result (Decides machine.now.state
         (λ setting. command_turn (given_spaces spaces) setting (Ok command))) }
+    ensures probes { (command : Resolved) → IsDraftFor machine.now.state command draft →
+        probes.new ≤ probes.old + answering machine.now.state command }
 {
     if draft.reads() {
         return answered(machine.ask(draft, answers, probes));

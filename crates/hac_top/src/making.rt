@@ -1,5 +1,5 @@
 //! Making: a script that is drawn from a number is played, and then what it left is told.
-ghost use Rattle.std.specs.Prelude.{◌≡◌, false, IfOk, codes};
+ghost use Rattle.std.specs.Prelude.{◌≡◌, ◌≤◌, false, IfOk, codes};
 ghost use Rattle.hac_model.specs.Run.Given.{no_answers};
 ghost use Rattle.hac_model.specs.declared.commands.Command.TheVariants as command;
 ghost use Rattle.hac_model.specs.declared.replies.Deny.TheVariants as denied;
@@ -35,7 +35,7 @@ pub fn make_store<K: Sink, D: Disk, P: Spaces, L: Ledger>(
     requires place { Bears (D.seen disk.old) store }
     ensures { MakesStore D.seen D.image D.moment D.image_since D.attached D.faults disk.old disk.new
         tick store.setting number (K.seen output.old) (K.seen output.new) (P.seen spaces.old)
-        (P.seen spaces.new) result }
+        (P.seen spaces.new) probes.old probes.new result }
 {
     let mut player = Player {
         alloc,
@@ -63,7 +63,7 @@ fn play_made<D: Disk, P: Spaces, L: Ledger>(
     requires place { Bears (D.seen disk.old) player.old.store }
     ensures { PlaysMade D.seen D.image D.moment D.image_since D.attached D.faults disk.old disk.new
         player.old.tick player.old.store.setting number (P.seen spaces.old) (P.seen spaces.new)
-        result player.new.store.setting }
+        probes.old probes.new result player.new.store.setting }
 {
     let mut source = ScriptSource::new(make_script(alloc, number)?);
     let mut sink = Unwritten;
@@ -78,8 +78,9 @@ fn tell_counts<K: Sink, L: Ledger>(
     played: Result<bool, Status>,
     probes: &mut Steps<L>,
 ) -> Result<bool, Status>
-    ensures { TellsLeft played result player.old.store.setting.state (K.seen output.old)
+    ensures tells { TellsLeft played result player.old.store.setting.state (K.seen output.old)
         (K.seen output.new) }
+    ensures probes { probes.new ≤ probes.old }
 {
     let refused = played?;
     let reply = counts_reply(alloc, player.store.machine(), probes)?;
@@ -93,7 +94,8 @@ fn counts_reply<L: Ledger>(
     machine: &Machine,
     probes: &mut Steps<L>,
 ) -> Result<Reply, Memory>
-    ensures { IfOk result (λ reply. reply ≡ counts_reply machine.now.state) }
+    ensures reply { IfOk result (λ reply. reply ≡ counts_reply machine.now.state) }
+    ensures probes { probes.new ≤ probes.old }
 {
     let _dirty = machine.dirty();
     match machine.check(counts_line(alloc)?) {

@@ -1,11 +1,12 @@
 //! Opening: the file of the store is attached, and the store that it holds is loaded, or a new one
 //! is made.
-ghost use Rattle.std.specs.Prelude.{◌≡◌, false, Err, IfOk, IfErr, IfSome};
+ghost use Rattle.std.specs.Prelude.{◌≡◌, ◌+◌, ◌≤◌, false, Err, IfOk, IfErr, IfSome};
 ghost use Rattle.hac_disk.specs.Images.{IsQuiet, LeavesOnly};
 ghost use Rattle.hac_disk.specs.Contents.{IsSettled};
 ghost use Rattle.hac_outside.specs.Causes.{ReportsFault};
 ghost use Rattle.hac_model.specs.Tree.Sessions.{stored};
 ghost use Rattle.hac_store.specs.Held.{held};
+ghost use Rattle.hac_store.specs.Loading.{loading};
 ghost use Rattle.hac_store.specs.Stores.{Bears, Stands};
 ghost use Rattle.hac_top.specs.Attaching.{AttachesStore, MayAttach};
 ghost use Rattle.hac_top.specs.Crashes.{IsOpened, Reopens, StopsOpening, opening_outcome};
@@ -35,6 +36,7 @@ pub fn open_store<D: Disk, L: Ledger>(
     ensures stands { IfSome (D.seen disk.old) (λ _. IfOk result
         (λ store. Stands (D.seen disk.new) (D.image disk.new) store.setting)) }
     ensures stops { IfErr result StopsOpening }
+    ensures probes { IfSome (D.seen disk.old) (λ file. probes.new ≤ probes.old + loading file) }
 
     // At each moment a crash leaves the store as it was, or the root alone, or no store yet.
     ensures any_moment { IfSome (D.seen disk.old) (λ file. IfOk

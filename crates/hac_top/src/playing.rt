@@ -30,9 +30,9 @@ pub fn play_store<S: Source, K: Sink, D: Disk, P: Spaces, L: Ledger>(
     requires intact { store.broken ≡ false }
     requires place { Bears (D.seen disk.old) store }
     ensures { PlaysStore D.seen D.image D.moment D.image_since D.attached D.faults disk.old disk.new
-        tick store.setting (outside (S.seen input.old) (K.seen output.old))
-        (outside (S.seen input.new) (K.seen output.new)) (P.seen spaces.old) (P.seen spaces.new)
-        result }
+        tick store.setting (outside (S.seen input.old) (K.seen output.old) probes.old)
+        (outside (S.seen input.new) (K.seen output.new) probes.new) (P.seen spaces.old)
+        (P.seen spaces.new) result }
 {
     let mut player = Player {
         alloc,
@@ -60,9 +60,10 @@ pub fn play_script<S: Source, K: Sink, D: Disk, P: Spaces, L: Ledger>(
     requires intact { player.old.store.broken ≡ false }
     requires place { Bears (D.seen disk.old) player.old.store }
     ensures { PlaysOn D.seen D.image D.moment D.image_since D.attached D.faults disk.old disk.new
-        player.old.tick player.old.store.setting (outside (S.seen input.old) (K.seen output.old))
-        (outside (S.seen input.new) (K.seen output.new)) (P.seen spaces.old) (P.seen spaces.new)
-        result player.new.store.setting }
+        player.old.tick player.old.store.setting
+        (outside (S.seen input.old) (K.seen output.old) probes.old)
+        (outside (S.seen input.new) (K.seen output.new) probes.new) (P.seen spaces.old)
+        (P.seen spaces.new) result player.new.store.setting }
 {
     let mut reader = Reader::new(alloc)?;
     'lines: loop {

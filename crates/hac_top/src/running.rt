@@ -16,7 +16,7 @@ ghost use Rattle.hac_top.specs.Ends.{IsStoreStatus, is_bad_space, is_disk_fault}
 ghost use Rattle.hac_top.specs.Ends.{is_write_fault};
 ghost use Rattle.hac_top.specs.Making.{IfMakes, Makes, Tells};
 ghost use Rattle.hac_top.specs.Run.{AppendsSome, Ends, EndsSo, IfOpened, IfOpens, IsFaultless};
-ghost use Rattle.hac_top.specs.Run.{Ran, RefusesWords, outside, usage_line};
+ghost use Rattle.hac_top.specs.Run.{Ran, RefusesWords, once_open, outside, usage_line};
 ghost use Rattle.hac_top.specs.Spaces.{CanAttach, LeavesSpaces};
 ghost use Rattle.command_line.specs.Words.{asked_of};
 
@@ -48,7 +48,8 @@ use std::sync::ledger::Ledger;
 /// With `--make` the script is one that is drawn from NUMBER. Nothing of the source is taken then,
 /// and of the replies only that to `counts` is written, which is asked behind the script.
 ///
-/// `probes` counts how often a term is asked of an item.
+/// `probes` counts how often a term is asked of an item: where the file, the script and the spaces
+/// are told, at most as often as opening the store may take, and each line that is taken up.
 pub fn run<S: Source, K: Sink, D: Disk, P: Spaces, L: Ledger>(
     alloc: Global,
     words: &[String],
@@ -64,8 +65,8 @@ pub fn run<S: Source, K: Sink, D: Disk, P: Spaces, L: Ledger>(
     // Faulty command lines are refused.
     ensures usage { result ≡ Status.Usage → options (map string_bytes words.now) ≡ None }
     ensures words { options (map string_bytes words.now) ≡ None →
-        RefusesWords result (outside (S.seen input.old) (K.seen output.old))
-        (outside (S.seen input.new) (K.seen output.new)) × (disk.new ≡ disk.old) ×
+        RefusesWords result (outside (S.seen input.old) (K.seen output.old) probes.old)
+        (outside (S.seen input.new) (K.seen output.new) probes.new) × (disk.new ≡ disk.old) ×
         (spaces.new ≡ spaces.old) }
 
     // Each space that the words name is attached, with the documents of its file, and is only asked
@@ -77,28 +78,29 @@ pub fn run<S: Source, K: Sink, D: Disk, P: Spaces, L: Ledger>(
 
     // The replies are those of the tree that the store held, given the documents of the spaces and
     // the faults that its commands met. A crash at any moment leaves that tree after some of the
-    // events, at the end those of what was answered, and without a fault the script is played.
+    // events, at the end those of what was answered, and without a fault the script is played. No
+    // more terms are asked of items than opening the store may take, and each line since.
     ensures ran { IfOpens (options (map string_bytes words.now)) (D.seen disk.old)
         (S.seen input.old).left
-        (λ asked setting script. IfTold (P.seen spaces.old) (P.seen spaces.new) asked.tick setting
-        script (λ given. Ran asked.fresh given result setting script
-        (outside (S.seen input.old) (K.seen output.old))
-        (outside (S.seen input.new) (K.seen output.new))
+        (λ asked opening setting script.
+        IfTold (P.seen spaces.old) (P.seen spaces.new) asked.tick setting script (λ given. Ran asked.fresh given result setting script
+        (once_open opening (outside (S.seen input.old) (K.seen output.old) probes.old))
+        (outside (S.seen input.new) (K.seen output.new) probes.new)
         (IsSettled (D.seen disk.old) (D.image disk.old)) (D.image disk.new)
         (LeavesOnly D.moment D.image_since disk.old disk.new)
         (CanAttach asked.spaces (P.seen spaces.old) (P.seen spaces.new) ×
-        IsFaultless (outside (S.seen input.old) (K.seen output.old))
-        (outside (S.seen input.new) (K.seen output.new))
+        IsFaultless (outside (S.seen input.old) (K.seen output.old) probes.old)
+        (outside (S.seen input.new) (K.seen output.new) probes.new)
         (D.faults disk.old) (D.faults disk.new)))) }
 
     // Where the script is to be drawn, nothing is read, and the same is true of that script, which
     // is played from a source and to a sink of its own. Then the reply to `counts` is written.
     ensures made { IfMakes (options (map string_bytes words.now)) (λ asked number. Makes number
-        (outside (S.seen input.old) (K.seen output.old))
-        (outside (S.seen input.new) (K.seen output.new))
-        (λ played own after. IfOpened asked (D.seen disk.old) own.source.left (λ setting script.
-        IfTold (P.seen spaces.old) (P.seen spaces.new) asked.tick setting script
-        (λ given. Ran asked.fresh given played setting script own after
+        (outside (S.seen input.old) (K.seen output.old) probes.old)
+        (outside (S.seen input.new) (K.seen output.new) probes.new)
+        (λ played own after. IfOpened asked (D.seen disk.old) own.source.left
+        (λ opening setting script. IfTold (P.seen spaces.old) (P.seen spaces.new) asked.tick setting script
+        (λ given. Ran asked.fresh given played setting script (once_open opening own) after
         (IsSettled (D.seen disk.old) (D.image disk.old)) (D.image disk.new)
         (LeavesOnly D.moment D.image_since disk.old disk.new)
         (CanAttach asked.spaces (P.seen spaces.old) (P.seen spaces.new) ×
@@ -122,8 +124,8 @@ pub fn run<S: Source, K: Sink, D: Disk, P: Spaces, L: Ledger>(
         (λ asked. LeavesAttached result (D.attached disk.old) asked (D.attached disk.new)) }
 
     // Each fault is reported, and nothing is left unflushed in the sink.
-    ensures ends { Ends result (outside (S.seen input.old) (K.seen output.old))
-        (outside (S.seen input.new) (K.seen output.new)) }
+    ensures ends { Ends result (outside (S.seen input.old) (K.seen output.old) probes.old)
+        (outside (S.seen input.new) (K.seen output.new) probes.new) }
     ensures disk_faults { ReportsFault (is_disk_fault result) (D.faults disk.old)
         (D.faults disk.new) }
 {
@@ -152,21 +154,21 @@ fn run_store<S: Source, K: Sink, D: Disk, P: Spaces, L: Ledger>(
     ensures own { IsStoreStatus result }
     ensures ran { IfOpens (Some (asked_of options.now)) (D.seen disk.old)
         (S.seen input.old).left
-        (λ asked setting script. IfTold (P.seen spaces.old) (P.seen spaces.new) asked.tick setting
-        script (λ given. Ran asked.fresh given result setting script
-        (outside (S.seen input.old) (K.seen output.old))
-        (outside (S.seen input.new) (K.seen output.new))
+        (λ asked opening setting script.
+        IfTold (P.seen spaces.old) (P.seen spaces.new) asked.tick setting script (λ given. Ran asked.fresh given result setting script
+        (once_open opening (outside (S.seen input.old) (K.seen output.old) probes.old))
+        (outside (S.seen input.new) (K.seen output.new) probes.new)
         (IsSettled (D.seen disk.old) (D.image disk.old)) (D.image disk.new)
         (LeavesOnly D.moment D.image_since disk.old disk.new)
-        (IsFaultless (outside (S.seen input.old) (K.seen output.old))
-        (outside (S.seen input.new) (K.seen output.new))
+        (IsFaultless (outside (S.seen input.old) (K.seen output.old) probes.old)
+        (outside (S.seen input.new) (K.seen output.new) probes.new)
         (D.faults disk.old) (D.faults disk.new)))) }
     ensures made { IfMakes (Some (asked_of options.now)) (λ asked number. Makes number
-        (outside (S.seen input.old) (K.seen output.old))
-        (outside (S.seen input.new) (K.seen output.new))
-        (λ played own after. IfOpened asked (D.seen disk.old) own.source.left (λ setting script.
-        IfTold (P.seen spaces.old) (P.seen spaces.new) asked.tick setting script
-        (λ given. Ran asked.fresh given played setting script own after
+        (outside (S.seen input.old) (K.seen output.old) probes.old)
+        (outside (S.seen input.new) (K.seen output.new) probes.new)
+        (λ played own after. IfOpened asked (D.seen disk.old) own.source.left
+        (λ opening setting script. IfTold (P.seen spaces.old) (P.seen spaces.new) asked.tick setting script
+        (λ given. Ran asked.fresh given played setting script (once_open opening own) after
         (IsSettled (D.seen disk.old) (D.image disk.old)) (D.image disk.new)
         (LeavesOnly D.moment D.image_since disk.old disk.new)
         (IsFaultless own after (D.faults disk.old) (D.faults disk.new))
@@ -182,8 +184,8 @@ fn run_store<S: Source, K: Sink, D: Disk, P: Spaces, L: Ledger>(
         options.now.fresh (held file) ≡ Err result) }
     ensures attached { LeavesAttached result (D.attached disk.old) (asked_of options.now)
         (D.attached disk.new) }
-    ensures ends { Ends result (outside (S.seen input.old) (K.seen output.old))
-        (outside (S.seen input.new) (K.seen output.new)) }
+    ensures ends { Ends result (outside (S.seen input.old) (K.seen output.old) probes.old)
+        (outside (S.seen input.new) (K.seen output.new) probes.new) }
     ensures disk_faults { ReportsFault (is_disk_fault result) (D.faults disk.old)
         (D.faults disk.new) }
 {

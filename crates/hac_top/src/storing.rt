@@ -1,10 +1,12 @@
 //! Storing: what a line changes is in the store, and then in the tree, before its reply is given.
-ghost use Rattle.std.specs.Prelude.{◌≡◌, false, replicate};
+ghost use Rattle.std.specs.Prelude.{◌≡◌, ◌+◌, ◌≤◌, false, replicate};
 ghost use Rattle.hac_core.specs.Drafts.{CanSettle};
 ghost use Rattle.hac_model.specs.Laws.{AllHappen};
 ghost use Rattle.hac_model.specs.Script.Lines.{item_taken};
+ghost use Rattle.hac_model.specs.Tree.Costs.{costs};
 ghost use Rattle.hac_model.specs.declared.events.Event.TheVariants as event;
 ghost use Rattle.hac_store.specs.Stores.{Bears};
+ghost use Rattle.hac_store.specs.Storing.{storing_cost};
 ghost use Rattle.hac_top.specs.Deciding.{settled_turn, storing_turn};
 ghost use Rattle.hac_top.specs.Storing.{StoresItem, StoresTurn, storing_reply};
 
@@ -39,7 +41,8 @@ pub fn store_line<D: Disk, P: Spaces, L: Ledger>(
     requires intact { store.old.broken ≡ false }
     requires place { Bears (D.seen disk.old) store.old }
     ensures { StoresItem D.seen D.image D.moment D.image_since D.attached D.faults disk.old disk.new
-        (P.seen spaces.old) (P.seen spaces.new) store.old store.new (item_taken line taken) result }
+        (P.seen spaces.old) (P.seen spaces.new) store.old store.new (item_taken line taken)
+        probes.old probes.new result }
 {
     let decision = decide(alloc, store.machine(), spaces, line, taken, probes)?;
     match decision {
@@ -72,8 +75,11 @@ fn store_events<D: Disk, L: Ledger>(
     requires intact { store.old.broken ≡ false }
     requires place { Bears (D.seen disk.old) store.old }
     requires can { CanSettle store.old.setting.state settled }
-    ensures { StoresTurn D.seen D.image D.moment D.image_since D.attached D.faults disk.old disk.new
-        store.old store.new (settled_turn store.old.setting settled) (storing_reply result) }
+    ensures stores { StoresTurn D.seen D.image D.moment D.image_since D.attached D.faults disk.old
+        disk.new store.old store.new (settled_turn store.old.setting settled)
+        (storing_reply result) }
+    ensures probes { probes.new ≤ probes.old + costs store.old.setting.state
+        (settled_turn store.old.setting settled).events }
 {
     match settled {
         Settled::Change(change) => store.command(disk, change, probes),
@@ -94,9 +100,11 @@ pub fn store_steps<D: Disk, L: Ledger>(
     requires intact { store.old.broken ≡ false }
     requires place { Bears (D.seen disk.old) store.old }
     requires happen { AllHappen store.old.setting.state (replicate count event.Step) }
-    ensures { StoresTurn D.seen D.image D.moment D.image_since D.attached D.faults disk.old disk.new
-        store.old store.new (storing_turn store.old.setting (replicate count event.Step))
-        (storing_reply result) }
+    ensures stores { StoresTurn D.seen D.image D.moment D.image_since D.attached D.faults disk.old
+        disk.new store.old store.new
+        (storing_turn store.old.setting (replicate count event.Step)) (storing_reply result) }
+    ensures probes { probes.new ≤ probes.old
+        + storing_cost store.old.setting (replicate count event.Step) }
 {
     if !store.room_for(count, STEP_BYTES) {
         return Err(StoreFault::Full);

@@ -2,6 +2,7 @@
 ghost use Rattle.std.specs.Prelude.{◌≡◌, ◌≤◌, ◌+◌, ◌⊎◌, true, false, replicate};
 ghost use Rattle.hac_model.specs.Laws.{AllHappen};
 ghost use Rattle.hac_model.specs.Run.Play.{have_room, steps_behind};
+ghost use Rattle.hac_model.specs.Tree.Costs.{costs};
 ghost use Rattle.hac_model.specs.declared.events.Event.TheVariants as event;
 ghost use Rattle.hac_store.specs.Stores.{Bears};
 ghost use Rattle.hac_top.specs.Storing.{StoresSteps};
@@ -23,8 +24,10 @@ pub fn tick<D: Disk, L: Ledger>(
 ) -> Result<(), Status>
     requires intact { store.old.broken ≡ false }
     requires place { Bears (D.seen disk.old) store.old }
-    ensures { StoresSteps D.seen D.image D.moment D.image_since D.attached D.faults disk.old
+    ensures stores { StoresSteps D.seen D.image D.moment D.image_since D.attached D.faults disk.old
         disk.new store.old store.new (steps_behind most store.old.setting) result }
+    ensures probes { probes.new ≤ probes.old + costs store.old.setting.state
+        (steps_behind most store.old.setting) }
 {
     let count = steps_due(store, most);
     match store_steps(store, disk, count, probes) {

@@ -1,4 +1,4 @@
-use Rattle.std.proofs.Common.{◌≡◌, true, false, rules}
+use Rattle.std.proofs.Common.{◌≡◌, true, false, arith, rules}
 use Rattle.std.specs.Prelude.{Ok}
 use Rattle.hac_core.specs.Drafts.{reads}
 use Rattle.hac_model.specs.Run.Play.{command_turn, given_spaces}
@@ -32,3 +32,12 @@ returns-in-Err-clause-leads g c =
     λ command for spaces is attached.
     decides-denied c.in-Err.deny c.refused.result c.args.machine.now.state (λ setting. command_turn (given_spaces spaces) setting (Ok command)) c.refused.ensures
     (λ refusal why_is setting same. refused-draft spaces setting c.args.machine.now.state command c.args.draft c.args.answers same for is attached c.in-Err.deny refusal (c.in-Err.ensures.refused command for) why_is)
+
+pub returns-then-reads-clause-probes : goal.returns-then-reads-clause-probes
+returns-then-reads-clause-probes g c = c.ask.ensures.probes
+
+pub returns-in-Ok-clause-probes : goal.returns-in-Ok-clause-probes
+returns-in-Ok-clause-probes g c = λ command for. omega arith
+
+pub returns-in-Err-clause-probes : goal.returns-in-Err-clause-probes
+returns-in-Err-clause-probes g c = λ command for. omega arith

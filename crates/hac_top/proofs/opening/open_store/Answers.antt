@@ -1,9 +1,11 @@
-use Rattle.std.proofs.Common.{◌≡◌, ℕ, List, subst, sym, inr, ◌∙◌}
+use Rattle.std.proofs.Common.{◌≡◌, ℕ, ◌+◌, ◌≤◌, List, subst, sym, inr, ◌∙◌}
 use Rattle.std.specs.Prelude.{Err, IfOk, IsErr, IsOk, OnOk, Option}
 use Rattle.std.specs.Option.{IfSome}
 use Rattle.hac_disk.specs.Images.{IsQuiet}
 use Rattle.hac_model.specs.Run.Play.{Setting, new_setting}
 use Rattle.hac_store.specs.Held.{held}
+use Rattle.hac_store.specs.Loading.{loading}
+use Rattle.hac_store.proofs.LoadLemmas.{loaded-none}
 use Rattle.hac_store.specs.Stores as store
 use Rattle.hac_store.specs.declared.fault.StoreFault.TheVariants as fault
 use Rattle.hac_store.specs.Stores.{Stands}
@@ -103,3 +105,14 @@ returns-else-options-clause-faults g c =
     let disk = g.D.Disk in
     opened-faults c.load.result c.opening_result-else-options.result (disk.faults c.args.disk.now) (disk.faults c.attach.new.self) (disk.faults c.load.new.disk) c.opening_result-else-options.ensures c.load.ensures.faults
     (where-fine _ c.attach.result (sym c.is_err.ensures.value ∙ c.if-is_err.false) c.attach.ensures.cause.none)
+
+pub returns-then-options-clause-probes : goal.returns-then-options-clause-probes
+returns-then-options-clause-probes g c =
+    subst (λ (told : Option (List ℕ)). IfSome told (λ file. c.create.new.probes ≤ c.args.probes.now + loading file)) c.attach.ensures.quiet.same c.create.ensures.probes
+
+pub returns-else-options-clause-probes : goal.returns-else-options-clause-probes
+returns-else-options-clause-probes g c =
+    subst (λ (told : Option (List ℕ)). IfSome told (λ file. c.load.new.probes ≤ c.args.probes.now + loading file)) c.attach.ensures.quiet.same c.load.ensures.probes
+
+pub returns-then-is_err-clause-probes : goal.returns-then-is_err-clause-probes
+returns-then-is_err-clause-probes g c = loaded-none (g.D.Disk.seen c.args.disk.now) c.args.probes.now

@@ -26,7 +26,7 @@ returns-in-Err-Memory-clause-spaces g c = memory-spaces (options (map string_byt
 pub returns-in-Err-Memory-clause-ran : goal.returns-in-Err-Memory-clause-ran
 returns-in-Err-Memory-clause-ran g c =
     let disk = g.D.Disk in
-    let before = outside (g.S.Source.seen c.args.input.now) (g.K.Sink.seen c.args.output.now) in
+    let before = outside (g.S.Source.seen c.args.input.now) (g.K.Sink.seen c.args.output.now) c.args.probes.now in
     let faults = disk.faults c.args.disk.now in
     let spaces = g.P.Spaces.seen c.args.spaces.now in
     memory-ran disk.seen disk.image disk.moment disk.image_since disk.attached disk.faults g.met.D.Disk.only_now g.met.D.Disk.counts_now
@@ -62,8 +62,8 @@ pub returns-in-Ok-attach_spaces-clause-ran : goal.returns-in-Ok-attach_spaces-cl
 returns-in-Ok-attach_spaces-clause-ran g c =
     let disk = g.D.Disk in
     let seen = g.P.Spaces.seen in
-    let before = outside (g.S.Source.seen c.args.input.now) (g.K.Sink.seen c.args.output.now) in
-    let after = outside (g.S.Source.seen c.run_store.new.input) (g.K.Sink.seen c.run_store.new.output) in
+    let before = outside (g.S.Source.seen c.args.input.now) (g.K.Sink.seen c.args.output.now) c.args.probes.now in
+    let after = outside (g.S.Source.seen c.run_store.new.input) (g.K.Sink.seen c.run_store.new.output) c.run_store.new.probes in
     let faultless = IsFaultless before after (disk.faults c.args.disk.now) (disk.faults c.run_store.new.disk) in
     let can = CanAttach (spaces_asked c.in-Ok.options.spaces.items) (seen c.args.spaces.now) (seen c.run_store.new.spaces) in
     let has : HasAttached (spaces_asked c.in-Ok.options.spaces.items) (seen c.args.spaces.now) (seen c.attach_spaces.new.spaces) = rw c.deref.ensures.value at c.in-Ok-attach_spaces.ensures.ok in
@@ -104,7 +104,7 @@ returns-clause-ran g c =
     let old = seen c.args.spaces.now in
     let new = seen c.attach_spaces.new.spaces in
     let files = spaces_asked c.in-Ok.options.spaces.items in
-    let before = outside (g.S.Source.seen c.args.input.now) (g.K.Sink.seen c.args.output.now) in
+    let before = outside (g.S.Source.seen c.args.input.now) (g.K.Sink.seen c.args.output.now) c.args.probes.now in
     let faults = disk.faults c.args.disk.now in
     let stops : StopsAttaching files old new c.in-Err.status = rw c.deref.ensures.value at c.in-Err.ensures.err in
     rw c.in-Ok.ensures.read
@@ -134,7 +134,7 @@ returns-clause-attached g c =
 pub returns-clause-ends : goal.returns-clause-ends
 returns-clause-ends g c =
     let seen = g.P.Spaces.seen in
-    unattached-ends c.in-Err.status (outside (g.S.Source.seen c.args.input.now) (g.K.Sink.seen c.args.output.now)) (is-unattached _ (seen c.args.spaces.now) (seen c.attach_spaces.new.spaces) c.in-Err.status c.in-Err.ensures.err)
+    unattached-ends c.in-Err.status (outside (g.S.Source.seen c.args.input.now) (g.K.Sink.seen c.args.output.now) c.args.probes.now) (is-unattached _ (seen c.args.spaces.now) (seen c.attach_spaces.new.spaces) c.in-Err.status c.in-Err.ensures.err)
 
 pub returns-clause-disk_faults : goal.returns-clause-disk_faults
 returns-clause-disk_faults g c =
@@ -149,7 +149,7 @@ returns-in-Err-Memory-clause-made g c =
     let spaces = g.P.Spaces.seen c.args.spaces.now in
     memory-made disk.seen disk.image disk.moment disk.image_since disk.attached disk.faults g.met.D.Disk.only_now g.met.D.Disk.counts_now
     (λ asked own own_after. CanAttach asked.spaces spaces spaces × IsFaultless own own_after faults faults) (options (map string_bytes c.args.words.now)) c.args.disk.now
-    (outside (g.S.Source.seen c.args.input.now) (g.K.Sink.seen c.args.output.now)) spaces
+    (outside (g.S.Source.seen c.args.input.now) (g.K.Sink.seen c.args.output.now) c.args.probes.now) spaces
 
 pub returns-in-Ok-attach_spaces-clause-made : goal.returns-in-Ok-attach_spaces-clause-made
 returns-in-Ok-attach_spaces-clause-made g c =
@@ -161,7 +161,7 @@ returns-in-Ok-attach_spaces-clause-made g c =
     let now = disk.faults c.run_store.new.disk in
     rw c.in-Ok.ensures.read
     (made-given disk.seen disk.image disk.moment disk.image_since disk.attached disk.faults g.met.D.Disk.only_now g.met.D.Disk.counts_now (asked_of c.in-Ok.options) c.args.disk.now c.run_store.new.disk
-    (outside (g.S.Source.seen c.args.input.now) (g.K.Sink.seen c.args.output.now)) (outside (g.S.Source.seen c.run_store.new.input) (g.K.Sink.seen c.run_store.new.output))
+    (outside (g.S.Source.seen c.args.input.now) (g.K.Sink.seen c.args.output.now) c.args.probes.now) (outside (g.S.Source.seen c.run_store.new.input) (g.K.Sink.seen c.run_store.new.output) c.run_store.new.probes)
     (seen c.args.spaces.now) (seen c.attach_spaces.new.spaces) (seen c.run_store.new.spaces) c.run_store.result (λ own own_after. IsFaultless own own_after was now)
     (λ own own_after. CanAttach files (seen c.args.spaces.now) (seen c.run_store.new.spaces) × IsFaultless own own_after was now) (λ own own_after given. given.1) has.faults c.in-Ok.options.make c.run_store.ensures.made)
 
@@ -177,5 +177,5 @@ returns-clause-made g c =
     rw c.in-Ok.ensures.read
     (made-unattached disk.seen disk.image disk.moment disk.image_since disk.attached disk.faults g.met.D.Disk.only_now g.met.D.Disk.counts_now
     (λ own own_after. CanAttach files old new × IsFaultless own own_after faults faults) c.in-Err.status (is-unattached files old new c.in-Err.status stops)
-    (λ own given bad. not-bad files old new c.in-Err.status stops given.0 bad) (asked_of c.in-Ok.options) c.args.disk.now (outside (g.S.Source.seen c.args.input.now) (g.K.Sink.seen c.args.output.now)) old new
+    (λ own given bad. not-bad files old new c.in-Err.status stops given.0 bad) (asked_of c.in-Ok.options) c.args.disk.now (outside (g.S.Source.seen c.args.input.now) (g.K.Sink.seen c.args.output.now) c.args.probes.now) old new
     (stopped-later files old new c.in-Err.status stops) c.in-Ok.options.make)

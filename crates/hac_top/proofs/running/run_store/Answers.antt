@@ -15,10 +15,10 @@ pub returns-in-None-clause-ran : goal.returns-in-None-clause-ran
 returns-in-None-clause-ran g c =
     let disk = g.D.Disk in
     let old = c.args.disk.now in
-    let before = outside (g.S.Source.seen c.args.input.now) (g.K.Sink.seen c.args.output.now) in
-    let after = outside (g.S.Source.seen c.play_store.new.input) (g.K.Sink.seen c.play_store.new.output) in
-    λ _. ran-opened disk.seen disk.image disk.moment disk.image_since disk.attached disk.faults g.met.D.Disk.counts_now c.args.options.now.fresh c.args.options.now.tick (IsSettled (disk.seen old) (disk.image old)) old c.open_store.new.disk c.play_store.new.disk c.in-Ok.store.setting before after
-    (g.P.Spaces.seen c.args.spaces.now) (g.P.Spaces.seen c.play_store.new.spaces) c.play_store.result c.play_store.ensures c.in-Ok.ensures.faults (disk.seen old) c.in-Ok.ensures.opened c.in-Ok.ensures.stands c.in-Ok.ensures.any_moment
+    let before = outside (g.S.Source.seen c.args.input.now) (g.K.Sink.seen c.args.output.now) c.open_store.new.probes in
+    let after = outside (g.S.Source.seen c.play_store.new.input) (g.K.Sink.seen c.play_store.new.output) c.play_store.new.probes in
+    λ _. ran-opened disk.seen disk.image disk.moment disk.image_since disk.attached disk.faults g.met.D.Disk.counts_now c.args.options.now.fresh c.args.options.now.tick (IsSettled (disk.seen old) (disk.image old)) old c.open_store.new.disk c.play_store.new.disk c.in-Ok.store.setting before after c.args.probes.now
+    (g.P.Spaces.seen c.args.spaces.now) (g.P.Spaces.seen c.play_store.new.spaces) c.play_store.result c.play_store.ensures c.in-Ok.ensures.faults (disk.seen old) c.in-Ok.ensures.opened c.open_store.ensures.probes c.in-Ok.ensures.stands c.in-Ok.ensures.any_moment
 
 pub returns-in-None-clause-attached : goal.returns-in-None-clause-attached
 returns-in-None-clause-attached g c =
@@ -33,9 +33,9 @@ pub returns-in-Err-clause-ran : goal.returns-in-Err-clause-ran
 returns-in-Err-clause-ran g c =
     let disk = g.D.Disk in
     let old = c.args.disk.now in
-    let before = outside (g.S.Source.seen c.args.input.now) (g.K.Sink.seen c.args.output.now) in
-    λ _. ran-unopened disk.seen disk.image disk.moment disk.image_since disk.attached disk.faults g.met.D.Disk.counts_now c.args.options.now.fresh c.args.options.now.tick (IsSettled (disk.seen old) (disk.image old)) old c.open_store.new.disk before (g.P.Spaces.seen c.args.spaces.now) c.in-Err.status
-    c.in-Err.ensures.stops c.in-Err.ensures.faults (disk.seen old) c.in-Err.ensures.opened c.in-Err.ensures.any_moment
+    let before = outside (g.S.Source.seen c.args.input.now) (g.K.Sink.seen c.args.output.now) c.args.probes.now in
+    λ _. ran-unopened disk.seen disk.image disk.moment disk.image_since disk.attached disk.faults g.met.D.Disk.counts_now c.args.options.now.fresh c.args.options.now.tick (IsSettled (disk.seen old) (disk.image old)) old c.open_store.new.disk before c.open_store.new.probes (g.P.Spaces.seen c.args.spaces.now) c.in-Err.status
+    c.in-Err.ensures.stops c.in-Err.ensures.faults (disk.seen old) c.in-Err.ensures.opened c.open_store.ensures.probes c.in-Err.ensures.any_moment
 
 pub returns-in-Err-clause-attached : goal.returns-in-Err-clause-attached
 returns-in-Err-clause-attached g c =
@@ -62,8 +62,8 @@ returns-in-Some-clause-made g c =
     let source = g.S.Source.seen c.args.input.now in
     rw c.in-Some.is
     (makes-opened disk.seen disk.image disk.moment disk.image_since disk.attached disk.faults g.met.D.Disk.counts_now (asked_of c.args.options.now) c.args.disk.now c.open_store.new.disk c.make_store.new.disk c.in-Ok.store.setting
-    (outside source (g.K.Sink.seen c.args.output.now)) (outside source (g.K.Sink.seen c.make_store.new.output)) (g.P.Spaces.seen c.args.spaces.now) (g.P.Spaces.seen c.make_store.new.spaces) c.make_store.result c.in-Some.number
-    c.make_store.ensures c.in-Ok.ensures.faults refl c.in-Ok.ensures.opened c.in-Ok.ensures.stands c.in-Ok.ensures.any_moment)
+    (outside source (g.K.Sink.seen c.args.output.now) c.args.probes.now) (outside source (g.K.Sink.seen c.make_store.new.output) c.make_store.new.probes) (g.P.Spaces.seen c.args.spaces.now) (g.P.Spaces.seen c.make_store.new.spaces) c.make_store.result c.in-Some.number c.open_store.new.probes
+    c.make_store.ensures c.in-Ok.ensures.faults refl c.in-Ok.ensures.opened c.open_store.ensures.probes c.in-Ok.ensures.stands c.in-Ok.ensures.any_moment)
 
 pub returns-in-Some-clause-attached : goal.returns-in-Some-clause-attached
 returns-in-Some-clause-attached g c =
@@ -75,7 +75,7 @@ pub returns-in-Some-clause-spaces : goal.returns-in-Some-clause-spaces
 returns-in-Some-clause-spaces g c = c.make_store.ensures.plays.asked.stay
 
 pub returns-in-Some-clause-ends : goal.returns-in-Some-clause-ends
-returns-in-Some-clause-ends g c = made-ends (outside (g.S.Source.seen c.args.input.now) (g.K.Sink.seen c.args.output.now)) (g.K.Sink.seen c.make_store.new.output) c.make_store.ensures
+returns-in-Some-clause-ends g c = made-ends (outside (g.S.Source.seen c.args.input.now) (g.K.Sink.seen c.args.output.now) c.args.probes.now) (g.K.Sink.seen c.make_store.new.output) c.make_store.ensures
 
 pub returns-in-None-clause-made : goal.returns-in-None-clause-made
 returns-in-None-clause-made g c = rw c.in-None.is (search rules)
@@ -85,4 +85,4 @@ pub returns-in-Err-clause-made : goal.returns-in-Err-clause-made
 returns-in-Err-clause-made g c =
     let disk = g.D.Disk in
     made-unopened disk.seen disk.image disk.moment disk.image_since disk.attached disk.faults g.met.D.Disk.only_now g.met.D.Disk.counts_now (asked_of c.args.options.now) c.args.disk.now c.open_store.new.disk
-    (outside (g.S.Source.seen c.args.input.now) (g.K.Sink.seen c.args.output.now)) (g.P.Spaces.seen c.args.spaces.now) c.in-Err.status c.in-Err.ensures.stops c.in-Err.ensures.faults c.in-Err.ensures.opened c.in-Err.ensures.any_moment c.args.options.now.make
+    (outside (g.S.Source.seen c.args.input.now) (g.K.Sink.seen c.args.output.now) c.args.probes.now) c.open_store.new.probes (g.P.Spaces.seen c.args.spaces.now) c.in-Err.status c.in-Err.ensures.stops c.in-Err.ensures.faults c.in-Err.ensures.opened c.open_store.ensures.probes c.in-Err.ensures.any_moment c.args.options.now.make

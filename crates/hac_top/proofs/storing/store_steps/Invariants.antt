@@ -1,4 +1,7 @@
-use Rattle.std.proofs.Common.{◌≤◌, ◌-◌}
+use Rattle.std.proofs.Common.{◌≤◌, ◌+◌, ◌-◌}
+use Rattle.std.specs.Prelude.{replicate}
+use Rattle.hac_model.specs.Tree.Costs.{costs}
+use Rattle.hac_model.specs.declared.events.Event.TheVariants.{Step}
 use Rattle.hac_top.proofs.StoringLemmas.{Stepped}
 use Rattle.hac_top.proofs.storing.store_steps.Given as goal
 
@@ -8,6 +11,7 @@ invariant-loop-left g l =
     record {
       within : l.left ≤ l.fn.count;
       so_far : Stepped g.D.Disk.seen g.D.Disk.image g.D.Disk.moment g.D.Disk.image_since g.D.Disk.attached g.D.Disk.faults l.fn.disk l.disk l.fn.store l.store (l.fn.count - l.left) l.fn.count;
+      asks : l.probes ≤ l.fn.probes + costs l.fn.store.setting.state (replicate (l.fn.count - l.left) Step);
     }
 
 abbrev pub decreases-loop-left : goal.decreases-loop-left
