@@ -7,7 +7,7 @@ use Rattle.hac_model.specs.declared.replies.Refusal.{Refusal}
 use Rattle.hac_model.specs.declared.resolved.Resolved.{Resolved}
 use Rattle.hac_model.proofs.SessionLemmas.{session-there}
 use Rattle.kept_state.proofs.StateLemmas.{same-directory, same-resolved}
-use Rattle.hac_core.proofs.commands.followed.Goals as goal
+use Rattle.command_paths.proofs.commands.followed.Goals as goal
 
 pub resolve-requires : goal.resolve-requires
 resolve-requires c =

@@ -3,8 +3,8 @@ use Rattle.std.specs.Prelude.{Result}
 use Rattle.hac_model.specs.Run.Answers.{Answers}
 use Rattle.hac_model.specs.declared.replies.Refusal.{Refusal}
 use Rattle.hac_model.specs.declared.resolved.Resolved.{Resolved}
-use Rattle.hac_core.proofs.StandsLemmas.{other-resolved}
-use Rattle.hac_core.proofs.commands.resolve.Goals as goal
+use Rattle.command_paths.proofs.ResolveLemmas.{other-resolved}
+use Rattle.command_paths.proofs.commands.resolve.Goals as goal
 
 pub returns-in_default : goal.returns-in_default
 returns-in_default c =

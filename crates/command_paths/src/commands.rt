@@ -13,7 +13,7 @@ use kept_state::KeptState;
 use std::alloc::Global;
 
 /// The command of a line with what its paths lead to from where its session stands, or the first
-/// cause against it that lies in them.
+/// cause against it that lies in them. Its text moves into the command, and isn't copied.
 pub fn followed(alloc: Global, kept: &KeptState, line: Line) -> Result<Resolved, Deny>
     ensures { Answers result (resolve kept.now.state line) }
 {
