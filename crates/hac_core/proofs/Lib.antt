@@ -1,12 +1,7 @@
 mod AskedLemmas
 mod BlockingLemmas
-mod CountedLemmas
 mod DraftLemmas
-mod FittingLemmas
 mod LoopLemmas
-mod MountedLemmas
-mod NamesLemmas
-mod PlacedLemmas
 mod SettleLemmas
 mod ShowLemmas
 mod StandsLemmas

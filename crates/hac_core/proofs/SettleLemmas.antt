@@ -21,7 +21,7 @@ use Rattle.hac_model.specs.declared.states.State.{State}
 use Rattle.hac_model.proofs.EventLemmas.{are-documents}
 use Rattle.file_tree.specs.Seated.{is_seated}
 use Rattle.hac_core.specs.Drafts.{IsCounted, answering}
-use Rattle.hac_core.specs.Fitting.{asks_spaces}
+use Rattle.event_check.specs.Fitting.{asks_spaces}
 use Rattle.hac_core.specs.Questions.{asks_for}
 use Rattle.hac_core.specs.Settling.{answered, keeping_cause, limits_cause, settling_cause}
 use Rattle.hac_core.specs.declared.drafts.Change.{Change}

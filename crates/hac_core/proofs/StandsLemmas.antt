@@ -1,10 +1,7 @@
 -- What a command refers to is in the tree just where it is in the state.
-use Rattle.std.proofs.Common.{◌≡◌, ℕ, Bool, true, false, cond, List, refl, ap, sym, ◌∙◌}
-use Rattle.std.specs.Prelude.{◌==◌, ◌&&◌, ◌||◌, not, Option, Some, None, IsTrue, is_none}
-use Rattle.hac_model.specs.Run.Resolving.{mount_of, resolved, resolved_for}
-use Rattle.hac_model.specs.declared.commands.Command.{Command}
-use Rattle.hac_model.specs.declared.commands.Command.TheVariants as command
-use Rattle.hac_model.specs.declared.paths.PathWord.{PathWord}
+use Rattle.std.proofs.Common.{◌≡◌, ℕ, Bool, true, false, cond, List, ap, sym, ◌∙◌}
+use Rattle.std.specs.Prelude.{◌==◌, ◌&&◌, ◌||◌, not, Some, None, IsTrue, is_none}
+use Rattle.hac_model.specs.Run.Resolving.{mount_of}
 use Rattle.hac_model.specs.declared.places.Place.{Place}
 use Rattle.hac_model.specs.declared.places.Place.TheVariants.{There, Free}
 use Rattle.hac_model.specs.declared.resolved.Resolved.{Resolved}
@@ -73,8 +70,3 @@ module _ (s t : State) (bares : bare s ≡ bare t) where
   stands-kept (Tick steps) h = tt
   stands-kept Counts h = tt
   stands-kept Checkpoint h = tt
-
--- what a session's command leads to, where it isn't `cd`
-pub other-resolved : (s : State) (session : List ℕ) (base : ℕ) (c : Command) → ((path : Option PathWord) → c ≡ command.Cd path → ⊥) → resolved_for s session base c ≡ resolved s base c
-other-resolved s session base (command.Cd path) other = absurd (other path refl)
-other-resolved s session base c other = refl

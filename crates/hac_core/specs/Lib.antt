@@ -5,6 +5,3 @@ pub mod Seen
 pub mod Shape
 pub mod Questions
 pub mod Settling
-pub mod Told
-pub mod Mounting
-pub mod Fitting

@@ -5,12 +5,11 @@ ghost use Rattle.hac_model.specs.Run.Refusals.{blocking_cause, directory_cause, 
 ghost use Rattle.hac_model.specs.Run.Refusals.{not_link_cause, not_mount_cause, plain_cause};
 ghost use Rattle.hac_model.specs.Run.Refusals.{root_cause, taken_cause, under_cause, written_cause};
 ghost use Rattle.hac_model.specs.Run.Standing.{AllStand, IsSlot, is_own};
-ghost use Rattle.hac_model.specs.Tree.Events.{is_inside};
-ghost use Rattle.hac_model.specs.Tree.{is_live};
 ghost use Rattle.hac_core.specs.Blocking.{link_cause, tree_cause};
 
 use crate::marking::{is_link, marked, not_permanent, unreferenced};
 use crate::sessions::{has_place, idle};
+use event_check::is_inside;
 use file_tree::Tree;
 use hac_model::{Deny, Number, Place, Refusal, Resolved};
 use kept_links::LinkedState;
@@ -178,15 +177,6 @@ fn outside(tree: &Tree, entry: Number, place: &Place) -> Result<(), Deny>
         return Err(Deny::Refused(Refusal::Under(tree.path_of(entry)?)));
     }
     Ok(())
-}
-
-/// Whether a directory is an entry, or is below it.
-pub fn is_inside(tree: &Tree, dir: Number, entry: Number) -> bool
-    requires dir { IsTrue (is_live tree.now.state.entries dir) }
-    requires entry { IsTrue (is_live tree.now.state.entries entry) }
-    ensures { result ≡ is_inside tree.now.state dir entry }
-{
-    dir == entry || tree.is_below(dir, entry)
 }
 
 /// A directory is a mount.

@@ -8,11 +8,11 @@ ghost use Rattle.hac_core.specs.Drafts.{IsChange, IsCounted, IsDraftFor, IsKnown
 ghost use Rattle.hac_core.specs.Drafts.{change_cause};
 ghost use Rattle.file_tree.specs.Seated.{is_seated};
 
-use crate::counting::{counts_after, version, within};
 use crate::cycles::acyclic;
 use crate::drafts::{Change, Draft, Known};
 use crate::events::{Made, made_by};
 use crate::questions::asks_of;
+use event_check::{counts_after, version, within};
 use hac_model::{Asks, Deny, Event, Resolved};
 use kept_state::KeptState;
 use std::alloc::Global;

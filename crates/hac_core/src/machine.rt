@@ -15,12 +15,12 @@ ghost use Rattle.hac_core.specs.Drafts.{CanSettle, IsDraft, IsDraftFor, IsDraftO
 ghost use Rattle.hac_core.specs.Drafts.{Shows, settled_events};
 
 use crate::blocking::unblocked;
-use crate::commands::followed;
-use crate::counting::version;
 use crate::drafting::drafted;
 use crate::drafts::{Change, Draft, Known, Settled};
 use crate::settling::settled;
 use crate::showing::shown;
+use command_paths::followed;
+use event_check::version;
 use hac_model::{Answers, Deny, Event, Line, Memory, Reply, Resolved, Snapshot, Version};
 use hac_outside::Steps;
 use kept_links::LinkedState;

@@ -9,11 +9,10 @@ ghost use Rattle.hac_model.specs.Tree.Valid.{IsValid};
 ghost use Rattle.hac_model.specs.Tree.ValidTest.{is_valid};
 ghost use Rattle.hac_model.specs.Tree.{root_alone};
 ghost use Rattle.snapshots.specs.declared.reading.LoadFault.TheVariants as fault;
-ghost use Rattle.hac_core.specs.Fitting.{FitsAs, prohibits_found};
+ghost use Rattle.event_check.specs.Fitting.{FitsAs, prohibits_found};
 
-use crate::counting::version;
-use crate::fitting::fits;
 use crate::machine::Machine;
+use event_check::{fits, version};
 use hac_model::{Counts, Event, Memory, Snapshot, Version};
 use hac_outside::Steps;
 use kept_links::UnlinkedState;

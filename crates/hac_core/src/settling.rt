@@ -6,14 +6,14 @@ ghost use Rattle.hac_model.specs.Run.Refusals.{docs_cause};
 ghost use Rattle.hac_model.specs.Spaces.Answering.{AreAnswersTo};
 ghost use Rattle.hac_model.specs.Tree.Events.{is_placed};
 ghost use Rattle.hac_core.specs.Drafts.{IsCounted, answering, settled_change};
-ghost use Rattle.hac_core.specs.Fitting.{asks_spaces};
+ghost use Rattle.event_check.specs.Fitting.{asks_spaces};
 ghost use Rattle.hac_core.specs.Questions.{asks_for};
 ghost use Rattle.hac_core.specs.Settling.{answered, keeping_cause, limits_cause, settling_cause};
 ghost use Rattle.file_tree.specs.Seated.{is_seated};
 
-use crate::counting::{counts_after, version, within_all};
 use crate::drafts::{Change, Settled};
 use crate::numbers::{mounting, syncing};
+use event_check::{counts_after, version, within_all};
 use hac_model::{Answers, Deny, Event, LimitWord, Memory, Name, Number, Query, Refusal};
 use kept_state::KeptState;
 use std::alloc::Global;

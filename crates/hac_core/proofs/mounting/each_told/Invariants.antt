@@ -1,8 +1,0 @@
-use Rattle.std.proofs.Common.{◌≡◌, drop}
-use Rattle.std.specs.List.{list_all}
-use Rattle.hac_core.specs.Mounting.{is_told_by, will_have}
-use Rattle.hac_core.proofs.mounting.each_told.Given as goal
-
--- the lists are what those that are left are
-abbrev pub invariant-loop-numbers : goal.invariant-loop-numbers
-invariant-loop-numbers l = list_all (is_told_by (will_have l.tree.state l.names l.coming)) l.told ≡ list_all (is_told_by (will_have l.tree.state l.names l.coming)) (drop l.numbers-index l.told)
