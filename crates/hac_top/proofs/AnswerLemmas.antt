@@ -29,8 +29,8 @@ use Rattle.hac_top.specs.Ticking.{command_events, told_turn}
 use Rattle.hac_model.specs.Script.Printed.{text}
 use Rattle.hac_top.specs.TakenLines.{items_of_piece}
 use Rattle.hac_model.specs.declared.taken.Taken.{Taken}
-use Rattle.shell_lang.specs.declared.reading.Piece.{Piece}
-use Rattle.shell_lang.specs.declared.reading.Piece.TheVariants.{Blank, End}
+use Rattle.line_reader.specs.declared.reading.Piece.{Piece}
+use Rattle.line_reader.specs.declared.reading.Piece.TheVariants.{Blank, End}
 use Rattle.hac_top.specs.declared.status.Status.{Status}
 use Rattle.hac_top.specs.declared.status.Status.TheVariants.{WriteFault, DiskFault, Memory}
 use Rattle.hac_top.proofs.CostLemmas.{line-cost}

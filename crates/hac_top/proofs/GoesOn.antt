@@ -12,7 +12,7 @@ use Rattle.hac_model.specs.Tree.Events.{apply_all}
 use Rattle.hac_model.specs.Tree.Sessions.{stored}
 use Rattle.sem_mounts.specs.Seen.{Contents, SpacesSeen}
 use Rattle.hac_store.specs.Stores.{Bears, Seen, Stands}
-use Rattle.shell_lang.specs.Reading.{IsReaderOf, Reading, pending}
+use Rattle.line_reader.specs.Reading.{IsReaderOf, Reading, pending}
 use Rattle.hac_top.specs.Asking.{HaveAsked, given_by}
 use Rattle.hac_top.specs.Crashes.{Holds, IsTreeAfter}
 use Rattle.hac_top.specs.Run.{Outside, given_after}

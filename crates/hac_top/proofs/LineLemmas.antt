@@ -20,8 +20,8 @@ use Rattle.hac_model.specs.Tree.Sessions.{stored}
 use Rattle.hac_model.specs.declared.limits.TheConstants.{SCRIPT_LIMIT}
 use Rattle.hac_store.specs.Stores.{Bears, Seen, Stands}
 use Rattle.hac_store.proofs.PutLemmas.{stands-each}
-use Rattle.shell_lang.specs.Reading.{Reading, SameTotal, pending}
-use Rattle.shell_lang.proofs.ReaderLemmas.{total_on}
+use Rattle.line_reader.specs.Reading.{Reading, SameTotal, pending}
+use Rattle.line_reader.proofs.ReaderLemmas.{total_on}
 use Rattle.hac_top.specs.Crashes.{Holds, IsTreeAfter, IsTreeOfAnswered}
 use Rattle.hac_top.specs.Ends.{IsFinished, IsOpenStatus, finished_status, is_disk_fault, is_read_fault, is_write_fault}
 use Rattle.hac_top.specs.Asking.{HaveAsked, faults_after, given_by}

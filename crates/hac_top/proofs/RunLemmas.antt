@@ -20,9 +20,9 @@ use Rattle.hac_model.proofs.WholeLemmas.{whole-lines}
 use Rattle.hac_model.proofs.PlayLemmas.{events-lead}
 use Rattle.hac_model.proofs.ScriptLemmas.{script-nothing}
 use Rattle.hac_store.specs.Held.{held}
-use Rattle.shell_lang.specs.Reading.{piece_size}
-use Rattle.shell_lang.specs.declared.reading.Piece.{Piece}
-use Rattle.shell_lang.specs.declared.reading.Piece.TheVariants.{Bytes}
+use Rattle.line_reader.specs.Reading.{piece_size}
+use Rattle.line_reader.specs.declared.reading.Piece.{Piece}
+use Rattle.line_reader.specs.declared.reading.Piece.TheVariants.{Bytes}
 use Rattle.hac_top.specs.Ends.{IsFinished, finished_status}
 use Rattle.hac_top.specs.Crashes.{Holds, IsTreeAfter, IsTreeOfAnswered}
 use Rattle.hac_top.specs.Run.{AnswersAll, AnswersBy, AnswersTaken, AnswersWithin, AnswersPromptly, IsTreeOf, Outside, Played, Plays, given_after}

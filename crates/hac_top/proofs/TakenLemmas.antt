@@ -22,14 +22,14 @@ use Rattle.hac_model.specs.declared.limits.TheConstants.{LINE_LIMIT}
 use Rattle.hac_model.specs.declared.replies.Refusal.TheVariants.{Limit}
 use Rattle.hac_model.specs.declared.taken.Taken.{Taken}
 use Rattle.hac_model.proofs.JoinLemmas.{after_item-line, bytes-whole, first_items-line, whole-line, le-holds, first_line-is_unended, first_line-unended, after_line-unended, bytes-line, whole-short, whole-unended}
-use Rattle.shell_lang.specs.Pieces.{piece_of, GivesLine, GivesPiece, PieceAdvances, GoesOn, IsPastLimit}
-use Rattle.shell_lang.specs.Reading.{Reading, IsReaderBehind, IsReaderOf, IsUnended, LeavesReader, pending, piece_size, is_read_fault}
-use Rattle.shell_lang.specs.Takes.{Misses, within}
-use Rattle.shell_lang.specs.declared.reading.LineFault.{LineFault}
-use Rattle.shell_lang.specs.declared.reading.LineFault.TheVariants as why
-use Rattle.shell_lang.specs.declared.reading.Piece.{Piece}
-use Rattle.shell_lang.specs.declared.reading.Piece.TheVariants.{Blank, Bytes, LongLine, End}
-use Rattle.shell_lang.proofs.ReaderLemmas.{total_on}
+use Rattle.line_reader.specs.Pieces.{piece_of, GivesLine, GivesPiece, PieceAdvances, GoesOn, IsPastLimit}
+use Rattle.line_reader.specs.Reading.{Reading, IsReaderBehind, IsReaderOf, IsUnended, LeavesReader, pending, piece_size, is_read_fault}
+use Rattle.line_reader.specs.Takes.{Misses, within}
+use Rattle.line_reader.specs.declared.reading.LineFault.{LineFault}
+use Rattle.line_reader.specs.declared.reading.LineFault.TheVariants as why
+use Rattle.line_reader.specs.declared.reading.Piece.{Piece}
+use Rattle.line_reader.specs.declared.reading.Piece.TheVariants.{Blank, Bytes, LongLine, End}
+use Rattle.line_reader.proofs.ReaderLemmas.{total_on}
 use Rattle.hac_top.specs.Ends.{line_status}
 use Rattle.hac_top.specs.TakenLines.{items_of_piece, due_of_piece, GivesTaken, GivesFrom, Gives, TakesDue, CutsBy, CutsLine, StopsIn, StopsTaking}
 use Rattle.hac_top.specs.declared.status.Status.{Status}

@@ -2,8 +2,8 @@
 use Rattle.std.specs.Prelude.{ℕ, Bool, true, false, ⊤, if◌then◌else◌, Result, Ok, Err}
 use Rattle.hac_store.specs.declared.fault.StoreFault.{StoreFault}
 use Rattle.hac_store.specs.declared.fault.StoreFault.TheVariants as store
-use Rattle.shell_lang.specs.declared.reading.LineFault.{LineFault}
-use Rattle.shell_lang.specs.declared.reading.LineFault.TheVariants as line
+use Rattle.line_reader.specs.declared.reading.LineFault.{LineFault}
+use Rattle.line_reader.specs.declared.reading.LineFault.TheVariants as line
 use Rattle.hac_top.specs.declared.status.Status.{Status}
 use Rattle.hac_top.specs.declared.status.Status.TheVariants.{Done, SomeRefused, Usage, ReadFault, WriteFault, DiskFault, NotStore, Memory, BadSpace, TooLong, AlreadyStore}
 

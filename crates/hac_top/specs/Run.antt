@@ -24,7 +24,7 @@ use Rattle.hac_top.specs.Asking.{HaveAsked, given_by}
 use Rattle.sem_mounts.specs.Seen.{SpacesSeen}
 use Rattle.hac_top.specs.declared.status.Status.{Status}
 use Rattle.hac_top.specs.declared.status.Status.TheVariants.{Done, SomeRefused, Usage, ReadFault, WriteFault, DiskFault, Memory, TooLong}
-use Rattle.shell_lang.specs.Reading.{piece_size}
+use Rattle.line_reader.specs.Reading.{piece_size}
 
 -- what a run works on, as it is seen, and how many questions for terms it has asked
 pub record Outside : Type 0 where

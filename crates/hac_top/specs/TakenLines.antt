@@ -11,10 +11,10 @@ use Rattle.hac_model.specs.declared.taken.Taken.{Taken}
 use Rattle.hac_outside.specs.Causes.{ReportsFault}
 use Rattle.hac_outside.specs.Known.{Known}
 use Rattle.hac_outside.specs.Seen.{SourceSeen}
-use Rattle.shell_lang.specs.Pieces.{GoesOn}
-use Rattle.shell_lang.specs.Reading.{Reading, given, pending, piece_size, IsReaderBehind, IsReaderOf, SameTotal}
-use Rattle.shell_lang.specs.declared.reading.Piece.{Piece}
-use Rattle.shell_lang.specs.declared.reading.Piece.TheVariants.{Blank, Bytes, LongLine, End}
+use Rattle.line_reader.specs.Pieces.{GoesOn}
+use Rattle.line_reader.specs.Reading.{Reading, given, pending, piece_size, IsReaderBehind, IsReaderOf, SameTotal}
+use Rattle.line_reader.specs.declared.reading.Piece.{Piece}
+use Rattle.line_reader.specs.declared.reading.Piece.TheVariants.{Blank, Bytes, LongLine, End}
 use Rattle.hac_top.specs.Ends.{is_read_fault}
 use Rattle.hac_top.specs.declared.status.Status.{Status}
 use Rattle.hac_top.specs.declared.status.Status.TheVariants.{ReadFault, TooLong, Memory}

@@ -22,8 +22,9 @@ use hac_disk::Disk;
 use hac_model::{LimitWord, Refusal, Reply, Taken, Text};
 use hac_outside::{Failed, Sink, Steps, write_all};
 use hac_store::Store;
+use line_reader::Piece;
 use sem_mounts::Spaces;
-use shell_lang::{Piece, print_reply};
+use shell_lang::print_reply;
 use std::alloc::Global;
 use std::sync::ledger::Ledger;
 

@@ -10,8 +10,8 @@ use crate::taking::take_line;
 use hac_disk::Disk;
 use hac_outside::{Sink, Source, Steps};
 use hac_store::Store;
+use line_reader::Reader;
 use sem_mounts::Spaces;
-use shell_lang::Reader;
 use std::alloc::Global;
 use std::sync::ledger::Ledger;
 

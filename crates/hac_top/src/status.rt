@@ -4,7 +4,7 @@ ghost use Rattle.hac_top.specs.Ends.{status_number, store_status};
 
 use hac_model::Memory;
 use hac_store::StoreFault;
-use shell_lang::LineFault;
+use line_reader::LineFault;
 
 /// How a run ended.
 #[derive(Clone, Copy, Debug, PartialEq, Eq)]

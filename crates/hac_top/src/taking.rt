@@ -1,15 +1,16 @@
 //! Taking the next line of the script, with the bytes that belong to it.
 ghost use Rattle.std.specs.Prelude.{◌≡◌, ◌≤◌, IfOk, IfErr};
 ghost use Rattle.std.specs.Option.{unwrap_or};
-ghost use Rattle.shell_lang.specs.Reading.{given, IsReading, IsReaderBehind, IsReaderOf};
-ghost use Rattle.shell_lang.specs.Reading.{LeavesReader};
-ghost use Rattle.shell_lang.specs.Takes.{FallsShort};
+ghost use Rattle.line_reader.specs.Reading.{given, IsReading, IsReaderBehind, IsReaderOf};
+ghost use Rattle.line_reader.specs.Reading.{LeavesReader};
+ghost use Rattle.line_reader.specs.Takes.{FallsShort};
 ghost use Rattle.hac_top.specs.TakenLines.{GivesDue, StopsTaking, TakesLine, due_of_piece};
 
 use crate::status::Status;
 use hac_model::{SCRIPT_LIMIT, Taken};
 use hac_outside::Source;
-use shell_lang::{LineFault, Piece, Reader, put_length};
+use line_reader::{LineFault, Piece, Reader};
+use shell_lang::put_length;
 
 /// A line that was taken, and what came of the bytes that it asks for, where it asks for any.
 #[derive(Debug, Drop)]

@@ -1,8 +1,5 @@
 pub mod NumberLemmas
-pub mod ReaderLemmas
-pub mod GiveLemmas
 pub mod QuoteLemmas
-pub mod TakeLemmas
 pub mod RawLemmas
 pub mod PutLemmas
 pub mod GivenLemmas

@@ -1,5 +1,5 @@
-//! The language of scripts: lines out of a stream of bytes, commands out of lines, and replies as
-//! text. It knows nothing of what a command does.
+//! The language of scripts: commands out of lines, and replies as text. It knows nothing of what a
+//! command does, nor where its line comes from.
 #![tactic(auto)]
 
 mod commands;
@@ -10,7 +10,6 @@ mod paths;
 mod printing;
 mod putting;
 mod queries;
-mod reading;
 mod sessions;
 mod shapes;
 mod word_texts;
@@ -22,4 +21,3 @@ pub use numbers::{seed_of, steps_of};
 pub use parsing::parse_line;
 pub use printing::print_reply;
 pub use putting::put_length;
-pub use reading::{LineFault, Piece, Reader};

@@ -9,9 +9,10 @@ ghost use Rattle.hac_model.specs.Script.Numbers.{is_number};
 use crate::numbers::{is_number, number_of};
 use crate::paths::parse_path;
 use crate::sessions::session_words;
-use crate::words::{is_blank, only_word, raw_word, split_word};
+use crate::words::{only_word, raw_word, split_word};
 use crate::writing::limited;
 use hac_model::{Command, Deny, LimitWord, Refusal, TEXT_LIMIT, Taken};
+use line_reader::is_blank;
 use std::alloc::Global;
 
 /// How many bytes a `put` asks for behind its line. None where the line is no `put`, or is one that

@@ -11,10 +11,11 @@ ghost use Rattle.hac_model.specs.declared.paths.PathWord.{PathWord};
 ghost use Rattle.hac_model.specs.declared.replies.Refusal.TheVariants.{BadLine};
 
 use crate::paths::{only_path, parse_path, two_paths};
-use crate::words::{is_blank, only_word, skip_one, split_word};
+use crate::words::{only_word, skip_one, split_word};
 use crate::writing::limited;
 use hac_model::{Command, Deny, LimitWord, Name, PathWord, RawQuery, Refusal, TARGET_LIMIT, Text};
 use hac_names::is_space_name;
+use line_reader::is_blank;
 use query_text::{QueryFault, parse};
 use std::alloc::Global;
 

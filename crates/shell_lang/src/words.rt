@@ -1,7 +1,7 @@
 //! A line's words: plain ones, which end at a space, and words in quotes, which may hold spaces. A
 //! raw word is a piece of the line, with its escapes in it, and it wants no memory.
 ghost use Rattle.std.specs.Prelude.{◌≡◌, false, drop, slice_index};
-ghost use Rattle.std.specs.List.{prefix_len, position_or_len, list_all};
+ghost use Rattle.std.specs.List.{prefix_len, position_or_len};
 ghost use Rattle.std.specs.Option.{ok_or, option_map};
 ghost use Rattle.hac_model.specs.Run.Answers.{AnswersSeen};
 ghost use Rattle.hac_model.specs.Bytes.{is_quote, is_space};
@@ -14,6 +14,7 @@ ghost use Rattle.shell_lang.specs.Quotes.{QuotesFirst};
 ghost use Rattle.shell_lang.specs.RawWords.{GivesRaw};
 
 use hac_model::{Deny, Refusal};
+use line_reader::is_blank;
 use std::alloc::Global;
 
 /// The first word, without its quotes and their escapes, and what follows it. The line is bad where
@@ -176,13 +177,6 @@ pub fn skip_one(bytes: &[u8]) -> &[u8]
         [_, rest @ ..] => rest,
         [] => bytes,
     }
-}
-
-/// Whether there are only spaces.
-pub fn is_blank(bytes: &[u8]) -> bool
-    ensures { result ≡ list_all is_space bytes.now }
-{
-    bytes.iter().all(|byte| *byte == b' ')
 }
 
 /// The bytes from the first one on that is no space.

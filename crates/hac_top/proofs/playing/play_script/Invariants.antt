@@ -1,6 +1,6 @@
 use Rattle.std.proofs.Common.{◌≡◌, ◌-◌}
 use Rattle.hac_model.specs.declared.limits.TheConstants.{SCRIPT_LIMIT}
-use Rattle.shell_lang.specs.Reading.{given}
+use Rattle.line_reader.specs.Reading.{given}
 use Rattle.hac_top.specs.Run.{outside}
 use Rattle.hac_top.proofs.GoesOn.{RunsOn}
 use Rattle.hac_top.proofs.playing.play_script.Given as goal

@@ -2,8 +2,8 @@ use Rattle.std.proofs.Common.{Err, ap, ◌∙◌, arith}
 use Rattle.std.specs.Prelude.{Option}
 use Rattle.std.proofs.lemmas.Result.{err_from_is_err_and}
 use Rattle.hac_model.specs.declared.taken.Taken.{Taken}
-use Rattle.shell_lang.specs.Reading.{pending}
-use Rattle.shell_lang.specs.declared.reading.Piece.{Piece}
+use Rattle.line_reader.specs.Reading.{pending}
+use Rattle.line_reader.specs.declared.reading.Piece.{Piece}
 use Rattle.hac_top.proofs.TakenLemmas.{goes-line, buffered-stop, leaves-on, next-reader, stops-taking, taken-gives, taken-stop}
 use Rattle.hac_top.proofs.taking.take_line.Goals as goal
 

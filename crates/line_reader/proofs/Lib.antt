@@ -1,0 +1,3 @@
+pub mod ReaderLemmas
+pub mod GiveLemmas
+pub mod TakeLemmas

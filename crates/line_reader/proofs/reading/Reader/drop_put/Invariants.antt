@@ -1,0 +1,20 @@
+use Rattle.std.proofs.Common.{◌≡◌, ◌<◌, ◌≤◌, ◌+◌, ◌-◌, cond}
+use Rattle.hac_model.specs.declared.limits.TheConstants.{SCRIPT_LIMIT}
+use Rattle.line_reader.specs.Takes.{within}
+use Rattle.line_reader.proofs.TakeLemmas.{DropsOn}
+use Rattle.line_reader.proofs.reading.Reader.drop_put.Given as goal
+
+-- some of the bytes that are asked for are gone, the others are still due, and no read failed
+abbrev pub invariant-bytes : goal.invariant-bytes
+invariant-bytes g l =
+    let seen = g.S.Source.seen in
+    record {
+      drops : DropsOn l.asked l.due l.fn.self l.self (seen l.fn.source) (seen l.source);
+      more : 0 < l.due;
+      unread : l.asked ≤ within l.fn.self → (l.source ≡ l.fn.source) × (l.due ≤ within l.self);
+      faults : (seen l.source).faults ≡ (seen l.fn.source).faults;
+    }
+
+-- a read takes a byte, or ends the source
+abbrev pub decreases-bytes : goal.decreases-bytes
+decreases-bytes g l = (SCRIPT_LIMIT + 1 - l.self.taken) + cond l.self.ended 0 1

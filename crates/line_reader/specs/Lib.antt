@@ -1,0 +1,4 @@
+pub mod Reading
+pub mod ReaderShape
+pub mod Pieces
+pub mod Takes

@@ -1,6 +1,0 @@
-use Rattle.std.proofs.Common.{refl, rules}
-use Rattle.shell_lang.proofs.TakeLemmas.{keeps-first}
-use Rattle.shell_lang.proofs.reading.Reader.keep_put.Goals as goal
-
-pub bytes-init : goal.bytes-init
-bytes-init g c = record { keeps = keeps-first c.args.asked c.args.self.now (g.S.Source.seen c.args.source.now) c.requires.source; unread = search rules; faults = refl }
