@@ -83,7 +83,8 @@ pub fn run<S: Source, K: Sink, D: Disk, P: Spaces, L: Ledger>(
     ensures ran { IfOpens (options (map string_bytes words.now)) (D.seen disk.old)
         (S.seen input.old).left
         (λ asked opening setting script.
-        IfTold (P.seen spaces.old) (P.seen spaces.new) asked.tick setting script (λ given. Ran asked.fresh given result setting script
+        IfTold (P.seen spaces.old) (P.seen spaces.new) asked.tick setting script
+        (λ given. Ran asked.fresh given result setting script
         (once_open opening (outside (S.seen input.old) (K.seen output.old) probes.old))
         (outside (S.seen input.new) (K.seen output.new) probes.new)
         (IsSettled (D.seen disk.old) (D.image disk.old)) (D.image disk.new)
@@ -99,7 +100,8 @@ pub fn run<S: Source, K: Sink, D: Disk, P: Spaces, L: Ledger>(
         (outside (S.seen input.old) (K.seen output.old) probes.old)
         (outside (S.seen input.new) (K.seen output.new) probes.new)
         (λ played own after. IfOpened asked (D.seen disk.old) own.source.left
-        (λ opening setting script. IfTold (P.seen spaces.old) (P.seen spaces.new) asked.tick setting script
+        (λ opening setting script.
+        IfTold (P.seen spaces.old) (P.seen spaces.new) asked.tick setting script
         (λ given. Ran asked.fresh given played setting script (once_open opening own) after
         (IsSettled (D.seen disk.old) (D.image disk.old)) (D.image disk.new)
         (LeavesOnly D.moment D.image_since disk.old disk.new)
@@ -155,7 +157,8 @@ fn run_store<S: Source, K: Sink, D: Disk, P: Spaces, L: Ledger>(
     ensures ran { IfOpens (Some (asked_of options.now)) (D.seen disk.old)
         (S.seen input.old).left
         (λ asked opening setting script.
-        IfTold (P.seen spaces.old) (P.seen spaces.new) asked.tick setting script (λ given. Ran asked.fresh given result setting script
+        IfTold (P.seen spaces.old) (P.seen spaces.new) asked.tick setting script
+        (λ given. Ran asked.fresh given result setting script
         (once_open opening (outside (S.seen input.old) (K.seen output.old) probes.old))
         (outside (S.seen input.new) (K.seen output.new) probes.new)
         (IsSettled (D.seen disk.old) (D.image disk.old)) (D.image disk.new)
@@ -167,7 +170,8 @@ fn run_store<S: Source, K: Sink, D: Disk, P: Spaces, L: Ledger>(
         (outside (S.seen input.old) (K.seen output.old) probes.old)
         (outside (S.seen input.new) (K.seen output.new) probes.new)
         (λ played own after. IfOpened asked (D.seen disk.old) own.source.left
-        (λ opening setting script. IfTold (P.seen spaces.old) (P.seen spaces.new) asked.tick setting script
+        (λ opening setting script.
+        IfTold (P.seen spaces.old) (P.seen spaces.new) asked.tick setting script
         (λ given. Ran asked.fresh given played setting script (once_open opening own) after
         (IsSettled (D.seen disk.old) (D.image disk.old)) (D.image disk.new)
         (LeavesOnly D.moment D.image_since disk.old disk.new)

@@ -1,4 +1,5 @@
-//! The words of a text: its distinct ones in order, and those of a text in lower case as they stand.
+//! The words of a text: its distinct ones in order, and those of a text in lower case as they
+//! stand.
 ghost use Rattle.std.specs.Prelude.{◌≡◌, IfOk};
 ghost use Rattle.hac_model.specs.Query.Words.{lower_case, rising_words, runs};
 

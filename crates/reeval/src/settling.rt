@@ -31,8 +31,8 @@ pub struct Stop {
     /// It has to be in any case, and not only if one on which it depends provides the item now and
     /// didn't before, or the other way round.
     pub begins: bool,
-    /// Where judging begins, only what is lent to the directory may be new: its query is asked again
-    /// only if a directory on which it depends moved, as where judging doesn't begin.
+    /// Where judging begins, only what is lent to the directory may be new: its query is asked
+    /// again only if a directory on which it depends moved, as where judging doesn't begin.
     pub ties: bool,
     /// It may depend on another directory of the way.
     pub leans: bool,
