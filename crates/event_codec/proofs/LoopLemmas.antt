@@ -4,11 +4,11 @@ use Rattle.std.specs.List.{slice_get}
 use Rattle.std.proofs.lemmas.Bool.{and_parts}
 use Rattle.std.proofs.lemmas.List.{append-nil, length-append, take_more}
 use Rattle.std.proofs.Math.Seq.{drop-cons}
-use Rattle.hac_model.specs.Run.Answers.{◌>>=◌}
 use Rattle.hac_model.specs.Payload.Fields.{Field, items_at, items_fit, items_text}
-use Rattle.event_codec.specs.declared.faults.Fault.{Fault}
-use Rattle.event_codec.specs.declared.faults.Fault.TheVariants as fault
-use Rattle.event_codec.specs.Reading.{Fails}
+use Rattle.payload_fields.specs.declared.faults.Fault.{Fault}
+use Rattle.payload_fields.specs.declared.faults.Fault.TheVariants as fault
+use Rattle.payload_fields.specs.Reading.{Fails}
+use Rattle.payload_fields.proofs.FrontLemmas.{with_front, regroup}
 
 -- the last one
 abbrev pub last_of : {A : Type 0} → List A → Option A
@@ -22,20 +22,6 @@ pub last_of-push : {A : Type 0} (xs : List A) (x : A) → last_of (xs ++ x ∷ [
 last_of-push xs x =
     let size : length (xs ++ x ∷ []) - 1 ≡ length xs = omega (arith, length-append xs (x ∷ [])) in
     rw size (slice_get-last xs x)
-
--- items in front of those that are read
-abbrev pub with_front : {A : Type 0} → List A → Result (List A × List ℕ) ℕ → Result (List A × List ℕ) ℕ
-with_front front (Ok x) = Ok (front ++ x.0, x.1)
-with_front front (Err left) = Err left
-
-pub regroup : {A : Type 0} (front : List A) (x : A) (read : Result (List A × List ℕ) ℕ)
-    → with_front front (read >>= λ others. Ok (x ∷ others.0, others.1)) ≡ with_front (front ++ x ∷ []) read
-regroup front x (Ok others) = ap (λ xs. Ok (xs, others.1)) (sym (append_assoc front (x ∷ []) others.0))
-regroup front x (Err left) = refl
-
-pub front_none : {A : Type 0} (read : Result (List A × List ℕ) ℕ) → with_front [] read ≡ read
-front_none (Ok others) = refl
-front_none (Err left) = refl
 
 -- what is read in front of the items from here on is what is read in all
 abbrev pub GoesOn : {A : Type 0} → (Option A → Field A) → List A → ℕ → List ℕ → Result (List A × List ℕ) ℕ → Type 0

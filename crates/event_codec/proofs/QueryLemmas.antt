@@ -18,6 +18,7 @@ use Rattle.hac_model.specs.declared.terms.Term.TheVariants.{Word, Prefix}
 use Rattle.event_codec.specs.Laws.{AreBytes}
 use Rattle.event_codec.proofs.FieldLemmas.{Took, Lawful, bind_ok, ok_is, wide16, num_lawful, run_lawful, nothing_lawful, way_is, whole_way_is, choice_takes, way_again, whole_way_again}
 use Rattle.hac_model.specs.declared.versions.Version.{Version}
+use Rattle.payload_fields.proofs.FrontLemmas.{with_front}
 
 pub word_lawful : Lawful word_field
 word_lawful = run_lawful w16 QUERY_LIMIT is_word wide16 (lit< tt)
@@ -285,16 +286,11 @@ size_of-text version (query.Not q) = omega (arith, size_of-text version q)
 size_of-text version (query.And left right) = omega (arith, size_of-text version left, size_of-text version right, length-append (query_bytes version left) (query_bytes version right))
 size_of-text version (query.Or left right) = omega (arith, size_of-text version left, size_of-text version right, length-append (query_bytes version left) (query_bytes version right))
 
--- parts in front of those that are read
-abbrev with_parts : List Token → Result (List Token × List ℕ) ℕ → Result (List Token × List ℕ) ℕ
-with_parts front (Ok x) = Ok (front ++ x.0, x.1)
-with_parts front (Err left) = Err left
-
-with_part : (t : Token) (front : List Token) (read : Result (List Token × List ℕ) ℕ) → (with_parts front read >>= λ others. Ok (t ∷ others.0, others.1)) ≡ with_parts (t ∷ front) read
+with_part : (t : Token) (front : List Token) (read : Result (List Token × List ℕ) ℕ) → (with_front front read >>= λ others. Ok (t ∷ others.0, others.1)) ≡ with_front (t ∷ front) read
 with_part t front (Ok x) = refl
 with_part t front (Err left) = refl
 
-with_both : (a b : List Token) (read : Result (List Token × List ℕ) ℕ) → with_parts a (with_parts b read) ≡ with_parts (a ++ b) read
+with_both : (a b : List Token) (read : Result (List Token × List ℕ) ℕ) → with_front a (with_front b read) ≡ with_front (a ++ b) read
 with_both a b (Ok x) = ap (λ (ts : List Token). Ok (ts, x.1)) (sym (append_assoc a b x.0))
 with_both a b (Err left) = refl
 
@@ -304,7 +300,7 @@ part_step : (version : Version) (k nots : ℕ) (wanted : List ℕ) (terms letter
 unfolding tokens_at
 part_step version k nots wanted terms letters bytes after t room read fits = rw (read, fits) refl
 
-alone : (t : Token) (read : Result (List Token × List ℕ) ℕ) → (read >>= λ others. Ok (t ∷ others.0, others.1)) ≡ with_parts (t ∷ []) read
+alone : (t : Token) (read : Result (List Token × List ℕ) ℕ) → (read >>= λ others. Ok (t ∷ others.0, others.1)) ≡ with_front (t ∷ []) read
 alone t (Ok x) = refl
 alone t (Err left) = refl
 
@@ -321,9 +317,9 @@ dir_at-again version terms dir rest fits =
 two_again : (version : Version) (left right : Formula ℕ) (t : Token) (kind k nots : ℕ) (wanted : List ℕ) (terms letters : ℕ) (rest : List ℕ)
     → ((some : ℕ) (more : List ℕ) → token_at version some (kind ∷ more) ≡ Ok (t, more))
     → room_after nots wanted (term_count left + term_count right + terms) (letter_count left + letter_count right + letters) t ≡ Some (room_of (nots ∷ nots ∷ wanted) (term_count left + term_count right + terms) (letter_count left + letter_count right + letters))
-    → tokens_at version (query.size_of left + (query.size_of right + k)) (nots ∷ nots ∷ wanted) (term_count left + (term_count right + terms)) (letter_count left + (letter_count right + letters)) (query_bytes version left ++ (query_bytes version right ++ rest)) ≡ with_parts (flat left) (tokens_at version (query.size_of right + k) (nots ∷ wanted) (term_count right + terms) (letter_count right + letters) (query_bytes version right ++ rest))
-    → tokens_at version (query.size_of right + k) (nots ∷ wanted) (term_count right + terms) (letter_count right + letters) (query_bytes version right ++ rest) ≡ with_parts (flat right) (tokens_at version k wanted terms letters rest)
-    → tokens_at version (suc (query.size_of left + query.size_of right) + k) (nots ∷ wanted) (term_count left + term_count right + terms) (letter_count left + letter_count right + letters) (kind ∷ ((query_bytes version left ++ query_bytes version right) ++ rest)) ≡ with_parts (t ∷ (flat left ++ flat right)) (tokens_at version k wanted terms letters rest)
+    → tokens_at version (query.size_of left + (query.size_of right + k)) (nots ∷ nots ∷ wanted) (term_count left + (term_count right + terms)) (letter_count left + (letter_count right + letters)) (query_bytes version left ++ (query_bytes version right ++ rest)) ≡ with_front (flat left) (tokens_at version (query.size_of right + k) (nots ∷ wanted) (term_count right + terms) (letter_count right + letters) (query_bytes version right ++ rest))
+    → tokens_at version (query.size_of right + k) (nots ∷ wanted) (term_count right + terms) (letter_count right + letters) (query_bytes version right ++ rest) ≡ with_front (flat right) (tokens_at version k wanted terms letters rest)
+    → tokens_at version (suc (query.size_of left + query.size_of right) + k) (nots ∷ wanted) (term_count left + term_count right + terms) (letter_count left + letter_count right + letters) (kind ∷ ((query_bytes version left ++ query_bytes version right) ++ rest)) ≡ with_front (t ∷ (flat left ++ flat right)) (tokens_at version k wanted terms letters rest)
 two_again version left right t kind k nots wanted terms letters rest read room first second =
     let fuel : suc (query.size_of left + query.size_of right) + k ≡ suc (query.size_of left + (query.size_of right + k)) = omega arith in
     let some : term_count left + term_count right + terms ≡ term_count left + (term_count right + terms) = omega arith in
@@ -341,7 +337,7 @@ two_again version left right t kind k nots wanted terms letters rest read room f
     (with_part t (flat left ++ flat right) (tokens_at version k wanted terms letters rest))
 
 tokens_again : (version : Version) (q : Formula ℕ) (k nots : ℕ) (wanted : List ℕ) (terms letters : ℕ) (rest : List ℕ) → not_count q ≤ nots → terms_fit version q ≡ true
-    → tokens_at version (query.size_of q + k) (nots ∷ wanted) (term_count q + terms) (letter_count q + letters) (query_bytes version q ++ rest) ≡ with_parts (flat q) (tokens_at version k wanted terms letters rest)
+    → tokens_at version (query.size_of q + k) (nots ∷ wanted) (term_count q + terms) (letter_count q + letters) (query_bytes version q ++ rest) ≡ with_front (flat q) (tokens_at version k wanted terms letters rest)
 tokens_again version (query.Term term) k nots wanted terms letters rest le fits =
     let fuel : 1 + k ≡ suc k = omega arith in
     let one : leb 1 (1 + terms) ≡ true = le-leb _ _ (omega arith) in
@@ -401,7 +397,7 @@ query_again version q rest fits =
     let all : TERMS_LIMIT ≡ term_count q + (TERMS_LIMIT - term_count q) = omega arith in
     let bytes : QUERY_LIMIT ≡ letter_count q + (QUERY_LIMIT - letter_count q) = omega arith in
     let read : tokens_at version (query.size_of q + n) (NESTING_LIMIT ∷ []) (term_count q + (TERMS_LIMIT - term_count q)) (letter_count q + (QUERY_LIMIT - letter_count q)) (query_bytes version q ++ rest) ≡ Ok (flat q ++ [], rest) =
-    tokens_again version q n NESTING_LIMIT [] (TERMS_LIMIT - term_count q) (QUERY_LIMIT - letter_count q) rest nots fit ∙ ap (λ r. with_parts (flat q) r) (tokens_done version n (TERMS_LIMIT - term_count q) (QUERY_LIMIT - letter_count q) rest) in
+    tokens_again version q n NESTING_LIMIT [] (TERMS_LIMIT - term_count q) (QUERY_LIMIT - letter_count q) rest nots fit ∙ ap (λ r. with_front (flat q) r) (tokens_done version n (TERMS_LIMIT - term_count q) (QUERY_LIMIT - letter_count q) rest) in
     let read2 : tokens_at version (length (query_bytes version q ++ rest)) (NESTING_LIMIT ∷ []) TERMS_LIMIT QUERY_LIMIT (query_bytes version q ++ rest) ≡ Ok (flat q ++ [], rest) =
     ap (λ (k : ℕ). tokens_at version k (NESTING_LIMIT ∷ []) TERMS_LIMIT QUERY_LIMIT (query_bytes version q ++ rest)) fuel
     ∙ ap (λ (k : ℕ). tokens_at version (query.size_of q + n) (NESTING_LIMIT ∷ []) k QUERY_LIMIT (query_bytes version q ++ rest)) all

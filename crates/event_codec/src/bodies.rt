@@ -6,15 +6,13 @@ ghost use Rattle.hac_model.specs.Payload.Fields.{way_at};
 ghost use Rattle.hac_model.specs.Payload.States.{flag_field, other_text, shown_field};
 ghost use Rattle.hac_model.specs.Payload.States.{stored_field, stored_ways};
 ghost use Rattle.hac_model.specs.declared.versions.Version.{Version};
-ghost use Rattle.event_codec.specs.Reading.{GivesField};
+ghost use Rattle.payload_fields.specs.Reading.{GivesField};
 
-use crate::bytes::Bytes;
-use crate::faults::Fault;
-use crate::fields::{space, target, text};
 use crate::lists::{list, put_list, short_list};
-use crate::putting::{put_long, put_middle, put_query, put_short};
-use crate::queries::query;
 use hac_model::{Body, Document, Memory, Seq, Text, Version};
+use payload_fields::{
+    Bytes, Fault, put_long, put_middle, put_query, put_short, query, space, target, text,
+};
 use std::alloc::Global;
 
 /// What the entry at the front is, and the documents that are listed with it.
@@ -150,7 +148,7 @@ fn is_same(text: &Text, other: &Text) -> bool
 }
 
 /// Adds what an entry is, with the documents that are listed with it.
-#[tactic(auto, using(crate::proofs::PutLemmas::puts))]
+#[tactic(auto, using(payload_fields::proofs::PutLemmas::puts))]
 pub(crate) fn put_stored(
     out: &mut Vec<u8>,
     version: Version,
@@ -209,7 +207,7 @@ fn put_flag(out: &mut Vec<u8>, flag: bool) -> Result<(), Memory>
 }
 
 /// Adds the text as it was last indexed, of a file that has this text now.
-#[tactic(auto, using(crate::proofs::PutLemmas::puts))]
+#[tactic(auto, using(payload_fields::proofs::PutLemmas::puts))]
 fn put_shown(out: &mut Vec<u8>, text: &Text, shown: &Option<Text>) -> Result<(), Memory>
     requires { IsTrue ((shown_field text.now).fits shown.now) }
     ensures { OnOk result (out.new.items ≡ out.old.items ++

@@ -9,16 +9,11 @@
 #![tactic(auto)]
 
 mod bodies;
-mod bytes;
 mod faults;
-mod fields;
 pub mod laws;
 mod lists;
 mod mounts;
-mod putting;
-mod queries;
 mod reading;
-mod rooms;
 mod snapshots;
 mod writing;
 

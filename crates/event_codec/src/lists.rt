@@ -7,13 +7,10 @@ ghost use Rattle.hac_model.specs.Payload.Fields.{count, list};
 ghost use Rattle.hac_model.specs.Payload.Payloads.{docs_field, told_field};
 ghost use Rattle.hac_model.specs.Versions.{docs_limit};
 ghost use Rattle.hac_model.specs.declared.versions.Version.{Version};
-ghost use Rattle.event_codec.specs.Reading.{GivesField};
+ghost use Rattle.payload_fields.specs.Reading.{GivesField};
 
-use crate::bytes::Bytes;
-use crate::faults::Fault;
-use crate::fields::{count, name, num};
-use crate::putting::{put_count, put_num, put_short};
 use hac_model::{Memory, Name, Number, Seq, Version};
+use payload_fields::{Bytes, Fault, count, name, num, put_count, put_num, put_short};
 use std::alloc::Global;
 
 /// Something of which a payload may have a list.
@@ -177,7 +174,7 @@ fn items<T: Item>(
 }
 
 /// Adds the names of the documents of a space.
-#[tactic(auto, using(crate::proofs::PutLemmas::puts))]
+#[tactic(auto, using(payload_fields::proofs::PutLemmas::puts))]
 pub(crate) fn put_docs(out: &mut Vec<u8>, version: Version, docs: &Seq<Name>) -> Result<(), Memory>
     requires { IsTrue ((docs_field version).fits docs.now) }
     ensures { OnOk result (out.new.items ≡ out.old.items ++ (docs_field version).text docs.now) }
@@ -186,7 +183,7 @@ pub(crate) fn put_docs(out: &mut Vec<u8>, version: Version, docs: &Seq<Name>) ->
 }
 
 /// Adds what spaces answered.
-#[tactic(auto, using(crate::proofs::PutLemmas::puts))]
+#[tactic(auto, using(payload_fields::proofs::PutLemmas::puts))]
 pub(crate) fn put_told(
     out: &mut Vec<u8>,
     version: Version,
@@ -199,7 +196,7 @@ pub(crate) fn put_told(
 }
 
 /// Adds how many items there are, and each of them.
-#[tactic(auto, using(crate::proofs::PutLemmas::puts))]
+#[tactic(auto, using(payload_fields::proofs::PutLemmas::puts))]
 pub(crate) fn put_list<T: Item>(
     out: &mut Vec<u8>,
     version: Version,

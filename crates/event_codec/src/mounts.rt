@@ -1,18 +1,12 @@
 //! The documents of mounts and what their spaces answered, as items of lists.
-ghost use Rattle.std.specs.Prelude.{◌≡◌, ◌++◌, IsTrue, OnOk};
+ghost use Rattle.std.specs.Prelude.{◌≡◌};
 ghost use Rattle.std.specs.Option.{option_copied, option_map};
-ghost use Rattle.hac_model.specs.Payload.States.{term_field};
 ghost use Rattle.hac_model.specs.declared.states.Answer.{Answer};
 ghost use Rattle.hac_model.specs.declared.snapshots.Document.{Document};
-ghost use Rattle.event_codec.specs.Reading.{GivesField};
 
-use crate::bytes::Bytes;
-use crate::faults::Fault;
-use crate::fields::num;
 use crate::lists::{Item, list, put_list};
-use crate::putting::{put_middle, put_num, put_short};
-use crate::queries::whole_word;
 use hac_model::{Answer, Document, Memory, Name, Term, Version};
+use payload_fields::{Bytes, Fault, num, put_num, put_short, put_term, term};
 use std::alloc::Global;
 
 /// The names of documents rise.
@@ -33,7 +27,7 @@ impl Item for Document {
         })
     }
 
-    #[tactic(auto, using(crate::proofs::PutLemmas::puts))]
+    #[tactic(auto, using(payload_fields::proofs::PutLemmas::puts))]
     fn put(&self, out: &mut Vec<u8>, version: Version) -> Result<(), Memory> {
         put_num(out, version, self.number)?;
         put_short(out, self.name.as_bytes())
@@ -78,37 +72,6 @@ impl Item for Term {
     }
 }
 
-/// A term. It fails as one with its kind byte.
-#[tactic(auto, unfolding(hac_model::specs::Payload::Fields::choice_at, hac_model::specs::Payload::Fields::way_at))]
-fn term(alloc: Global, bytes: &mut Bytes) -> Result<Term, Fault>
-    ensures { GivesField result bytes.new (term_field.read bytes.old) }
-{
-    let left = bytes.left();
-    match bytes.byte() {
-        Some(1) => Ok(Term::Word(whole_word(alloc, bytes, left)?)),
-        Some(2) => Ok(Term::Prefix(whole_word(alloc, bytes, left)?)),
-        _ => Err(Fault::Bad { left }),
-    }
-}
-
-/// Adds a term.
-#[tactic(auto, using(crate::proofs::PutLemmas::puts))]
-fn put_term(out: &mut Vec<u8>, term: &Term) -> Result<(), Memory>
-    requires { IsTrue (term_field.fits term.now) }
-    ensures { OnOk result (out.new.items ≡ out.old.items ++ term_field.text term.now) }
-{
-    match term {
-        Term::Word(letters) => {
-            out.push(1)?;
-            put_middle(out, letters.as_bytes())
-        }
-        Term::Prefix(letters) => {
-            out.push(2)?;
-            put_middle(out, letters.as_bytes())
-        }
-    }
-}
-
 /// The terms of answers rise.
 impl Item for Answer {
     ghost use Rattle.hac_model.specs.Payload.States.{answer_field};
@@ -127,7 +90,7 @@ impl Item for Answer {
         })
     }
 
-    #[tactic(auto, using(crate::proofs::PutLemmas::puts))]
+    #[tactic(auto, using(payload_fields::proofs::PutLemmas::puts))]
     fn put(&self, out: &mut Vec<u8>, version: Version) -> Result<(), Memory> {
         put_term(out, &self.term)?;
         put_list(out, version, self.documents.as_slice())

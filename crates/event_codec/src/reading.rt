@@ -5,16 +5,15 @@ ghost use Rattle.hac_model.specs.Payload.Fields.{way_at};
 ghost use Rattle.hac_model.specs.Payload.Payloads.{event_field, event_ways, mark_field, mark_ways};
 ghost use Rattle.hac_model.specs.Payload.Payloads.{is_spellable, mount_ways, payload_field};
 ghost use Rattle.hac_model.specs.Payload.Payloads.{query_ways, spelled};
-ghost use Rattle.event_codec.specs.Reading.{GivesField, ReadsEvent};
+ghost use Rattle.event_codec.specs.Reading.{ReadsEvent};
 ghost use Rattle.event_codec.specs.declared.faults.CodecFault.TheVariants as codec;
+ghost use Rattle.payload_fields.specs.Reading.{GivesField};
 
-use crate::bytes::Bytes;
-use crate::faults::{CodecFault, Fault};
-use crate::fields::{name, num, space, target, text};
+use crate::faults::CodecFault;
 use crate::lists::{docs, told};
-use crate::queries::query;
 use crate::writing::event_kind;
 use hac_model::{Event, Kind, Mark, Version};
+use payload_fields::{Bytes, Fault, name, num, query, space, target, text};
 use std::alloc::Global;
 
 /// The event that a payload says in a store of this version. A payload of another version's kind,

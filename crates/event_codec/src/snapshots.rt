@@ -5,21 +5,20 @@ ghost use Rattle.hac_model.specs.Payload.States.{is_spellable_snapshot, snapshot
 ghost use Rattle.hac_model.specs.Payload.States.{snapshot_payload, snapshot_text, spelled_snapshot};
 ghost use Rattle.hac_model.specs.Payload.States.{state_kind};
 ghost use Rattle.hac_model.specs.declared.snapshots.StoredEntry.{StoredEntry};
-ghost use Rattle.event_codec.specs.Reading.{GivesField, ReadsSnapshot};
+ghost use Rattle.event_codec.specs.Reading.{ReadsSnapshot};
+ghost use Rattle.payload_fields.specs.Reading.{GivesField};
 
 use crate::bodies::{put_stored, stored};
-use crate::bytes::Bytes;
-use crate::faults::{CodecFault, Fault};
-use crate::fields::{name, num};
+use crate::faults::CodecFault;
 use crate::lists::{Item, list, put_list};
-use crate::putting::{put_num, put_short};
 use crate::reading::bad;
 use hac_model::{Entry, Memory, Number, Snapshot, StoredEntry, Version};
+use payload_fields::{Bytes, Fault, name, num, put_num, put_short};
 use std::alloc::Global;
 
 /// The payload of what is stored of a state. Its kind is 2 in version One and 3 in version Two, and
 /// numbers of entries have four bytes in version One and eight in version Two.
-#[tactic(auto, using(crate::proofs::PutLemmas::puts), unfolding(hac_model::specs::Payload::States::snapshot_text, hac_model::specs::Payload::States::is_spellable_snapshot))]
+#[tactic(auto, using(payload_fields::proofs::PutLemmas::puts), unfolding(hac_model::specs::Payload::States::snapshot_text, hac_model::specs::Payload::States::is_spellable_snapshot))]
 pub fn write_snapshot(alloc: Global, snapshot: &Snapshot) -> Result<Vec<u8>, Memory>
     requires { IsTrue (is_spellable_snapshot snapshot.now) }
     ensures { IfOk result (λ bytes. bytes.items ≡ snapshot_text snapshot.now) }
@@ -112,7 +111,7 @@ impl Item for StoredEntry {
         Ok(StoredEntry { entry, documents })
     }
 
-    #[tactic(auto, using(crate::proofs::PutLemmas::puts))]
+    #[tactic(auto, using(payload_fields::proofs::PutLemmas::puts))]
     fn put(&self, out: &mut Vec<u8>, version: Version) -> Result<(), Memory> {
         put_num(out, version, self.entry.number)?;
         put_num(out, version, self.entry.parent)?;

@@ -1,13 +1,12 @@
 //! Events as the bytes of a payload.
-ghost use Rattle.std.specs.Prelude.{◌≡◌, ◌++◌, IsTrue, IfOk, OnOk};
+ghost use Rattle.std.specs.Prelude.{◌≡◌, ◌++◌, ◌∷◌, IsTrue, IfOk, OnOk};
+ghost use Rattle.hac_model.specs.Payload.Fields.{num};
 ghost use Rattle.hac_model.specs.Payload.Payloads.{event_field, event_kind, event_text};
-ghost use Rattle.hac_model.specs.Payload.Payloads.{is_spellable};
+ghost use Rattle.hac_model.specs.Payload.Payloads.{is_spellable, mark_field, name_field};
 
 use crate::lists::{put_docs, put_told};
-use crate::putting::{
-    put_long, put_mark, put_middle, put_named, put_num, put_numbered, put_query, put_short,
-};
-use hac_model::{Event, Memory, Version};
+use hac_model::{Event, Kind, Memory, Name, Number, Version};
+use payload_fields::{put_long, put_middle, put_num, put_numbered, put_query, put_short};
 use std::alloc::Global;
 
 /// The payload of an event in a store of this version: its kind is 1 in version One and 4 in
@@ -35,7 +34,7 @@ pub(crate) fn event_kind(version: Version) -> u8
 }
 
 /// Adds the kind and the fields of an event.
-#[tactic(auto, using(crate::proofs::PutLemmas::puts))]
+#[tactic(auto, using(payload_fields::proofs::PutLemmas::puts))]
 fn put_event(out: &mut Vec<u8>, version: Version, event: &Event) -> Result<(), Memory>
     requires { IsTrue ((event_field version).fits event.now) }
     ensures { OnOk result (out.new.items ≡ out.old.items ++
@@ -107,4 +106,35 @@ fn put_event(out: &mut Vec<u8>, version: Version, event: &Event) -> Result<(), M
         }
         Event::Cd { .. } => Ok(()),
     }
+}
+
+/// Adds a kind, the number of a directory and a name in it.
+#[tactic(auto, using(payload_fields::proofs::PutLemmas::puts))]
+fn put_named(
+    out: &mut Vec<u8>,
+    version: Version,
+    kind: u8,
+    dir: Number,
+    name: &Name,
+) -> Result<(), Memory>
+    requires dir { IsTrue ((num version).fits dir) }
+    requires name { IsTrue (name_field.fits name.now) }
+    ensures { OnOk result (out.new.items ≡ out.old.items ++ kind ∷
+        ((num version).text dir ++ name_field.text name.now)) }
+{
+    put_numbered(out, version, kind, dir)?;
+    put_short(out, name.as_bytes())
+}
+
+/// Adds what an item is marked as.
+fn put_mark(out: &mut Vec<u8>, kind: Kind) -> Result<(), Memory>
+    ensures { OnOk result (out.new.items ≡ out.old.items ++ mark_field.text kind) }
+{
+    match kind {
+        Kind::Unlinked => out.push(0)?,
+        Kind::Permanent => out.push(1)?,
+        Kind::Prohibited => out.push(2)?,
+        Kind::Transient => {}
+    }
+    Ok(())
 }

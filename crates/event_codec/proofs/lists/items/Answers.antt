@@ -3,8 +3,9 @@ use Rattle.std.proofs.Math.Nat.{sub-zero}
 use Rattle.std.proofs.lemmas.Result.{err_from_is_err_and}
 use Rattle.std.specs.Option.{option_copied}
 use Rattle.hac_model.specs.Payload.Fields.{items_at}
-use Rattle.event_codec.proofs.LoopLemmas.{front_none, goes_on, goes_wrong, is_done, last_of}
-use Rattle.event_codec.specs.Reading.{Fails}
+use Rattle.event_codec.proofs.LoopLemmas.{goes_on, goes_wrong, is_done, last_of}
+use Rattle.payload_fields.proofs.FrontLemmas.{front_none}
+use Rattle.payload_fields.specs.Reading.{Fails}
 use Rattle.event_codec.proofs.lists.items.Goals as goal
 
 pub items-init : goal.items-init

@@ -1,14 +1,14 @@
 -- The parts of a query, as they are read and joined.
-use Rattle.std.proofs.Common.{◌≡◌, ℕ, zero, suc, ◌+◌, ◌-◌, ◌<◌, ◌≤◌, List, [], ◌∷◌, ◌++◌, length, Some, None, Result, Ok, Err, refl, sym, ap, ◌∙◌, append_assoc, arith}
+use Rattle.std.proofs.Common.{◌≡◌, ℕ, zero, suc, ◌+◌, ◌-◌, ◌<◌, ◌≤◌, List, [], ◌∷◌, ◌++◌, length, Some, None, Result, Ok, Err, refl, sym, ap, ◌∙◌, arith}
 use Rattle.std.specs.Prelude.{map}
 use Rattle.std.proofs.lemmas.List.{append-nil}
-use Rattle.hac_model.specs.Run.Answers.{◌>>=◌}
 use Rattle.hac_model.specs.Query.Formula.{Formula}
 use Rattle.hac_model.specs.Payload.QueryFields.{Room, Token, built, put, room_after, token_at, tokens_at}
 use Rattle.hac_model.specs.declared.versions.Version.{Version}
-use Rattle.event_codec.specs.declared.faults.Fault.{Fault}
-use Rattle.event_codec.specs.declared.faults.Fault.TheVariants as fault
-use Rattle.event_codec.specs.Reading.{Fails}
+use Rattle.payload_fields.specs.declared.faults.Fault.{Fault}
+use Rattle.payload_fields.specs.declared.faults.Fault.TheVariants as fault
+use Rattle.payload_fields.specs.Reading.{Fails}
+use Rattle.payload_fields.proofs.FrontLemmas.{with_front, regroup}
 
 -- ---- parts of queries are joined from the last one on
 
@@ -27,18 +27,9 @@ map-last view (y ∷ ys) x = ap (λ xs. view y ∷ xs) (map-last view ys x)
 
 -- ---- and read one by one
 
--- parts in front of those that are read
-abbrev pub with_parts : List Token → Result (List Token × List ℕ) ℕ → Result (List Token × List ℕ) ℕ
-with_parts front (Ok x) = Ok (front ++ x.0, x.1)
-with_parts front (Err left) = Err left
-
-regroup : (front : List Token) (t : Token) (read : Result (List Token × List ℕ) ℕ) → with_parts front (read >>= λ others. Ok (t ∷ others.0, others.1)) ≡ with_parts (front ++ t ∷ []) read
-regroup front t (Ok others) = ap (λ ts. Ok (ts, others.1)) (sym (append_assoc front (t ∷ []) others.0))
-regroup front t (Err left) = refl
-
 -- what is read behind the parts from here on is what is read in all
 abbrev pub PartsGoOn : Version → List Token → Room → ℕ → List ℕ → Result (List Token × List ℕ) ℕ → Type 0
-PartsGoOn version front room due bytes total = with_parts front (tokens_at version due room.wanted room.terms room.letters bytes) ≡ total
+PartsGoOn version front room due bytes total = with_front front (tokens_at version due room.wanted room.terms room.letters bytes) ≡ total
 
 pub parts_done : (version : Version) (front : List Token) (terms letters due : ℕ) (bytes : List ℕ) (total : Result (List Token × List ℕ) ℕ) → PartsGoOn version front (record { wanted = []; terms = terms; letters = letters }) due bytes total → total ≡ Ok (front, bytes)
 unfolding tokens_at
@@ -50,7 +41,7 @@ unfolding tokens_at
 parts_short version front [] terms letters count i bytes total le some so_far = absurd (omega arith)
 parts_short version front (nots ∷ wanted) terms letters count i bytes total le some so_far =
     let k : count - i ≡ 0 = omega arith in
-    let one : with_parts front (tokens_at version (count - i) (nots ∷ wanted) terms letters bytes) ≡ Err 0 = rw k refl in
+    let one : with_front front (tokens_at version (count - i) (nots ∷ wanted) terms letters bytes) ≡ Err 0 = rw k refl in
     sym so_far ∙ one
 
 pub part_fails : (version : Version) (f : Fault) (front : List Token) (nots : ℕ) (wanted : List ℕ) (terms letters count i : ℕ) (bytes : List ℕ) (total : Result (List Token × List ℕ) ℕ)
@@ -59,7 +50,7 @@ unfolding tokens_at
 part_fails version fault.Memory front nots wanted terms letters count i bytes total lt fails so_far = tt
 part_fails version (fault.Bad left) front nots wanted terms letters count i bytes total lt fails so_far =
     let k : count - i ≡ suc (count - (i + 1)) = omega arith in
-    let one : with_parts front (tokens_at version (count - i) (nots ∷ wanted) terms letters bytes) ≡ Err left = rw (k, fails) refl in
+    let one : with_front front (tokens_at version (count - i) (nots ∷ wanted) terms letters bytes) ≡ Err left = rw (k, fails) refl in
     sym so_far ∙ one
 
 pub part_barred : (version : Version) (front : List Token) (nots : ℕ) (wanted : List ℕ) (terms letters count i : ℕ) (bytes after : List ℕ) (t : Token) (total : Result (List Token × List ℕ) ℕ)
@@ -67,7 +58,7 @@ pub part_barred : (version : Version) (front : List Token) (nots : ℕ) (wanted 
 unfolding tokens_at
 part_barred version front nots wanted terms letters count i bytes after t total lt read none so_far =
     let k : count - i ≡ suc (count - (i + 1)) = omega arith in
-    let one : with_parts front (tokens_at version (count - i) (nots ∷ wanted) terms letters bytes) ≡ Err (length bytes) = rw (k, read, none) refl in
+    let one : with_front front (tokens_at version (count - i) (nots ∷ wanted) terms letters bytes) ≡ Err (length bytes) = rw (k, read, none) refl in
     sym so_far ∙ one
 
 pub part_read : (version : Version) (front : List Token) (nots : ℕ) (wanted : List ℕ) (terms letters count i : ℕ) (bytes after : List ℕ) (t : Token) (room : Room) (total : Result (List Token × List ℕ) ℕ)
@@ -76,6 +67,6 @@ pub part_read : (version : Version) (front : List Token) (nots : ℕ) (wanted : 
 unfolding tokens_at
 part_read version front nots wanted terms letters count i bytes after t room total lt read some so_far =
     let k : count - i ≡ suc (count - (i + 1)) = omega arith in
-    let one : with_parts front (tokens_at version (count - i) (nots ∷ wanted) terms letters bytes) ≡ with_parts (front ++ t ∷ []) (tokens_at version (count - (i + 1)) room.wanted room.terms room.letters after) =
+    let one : with_front front (tokens_at version (count - i) (nots ∷ wanted) terms letters bytes) ≡ with_front (front ++ t ∷ []) (tokens_at version (count - (i + 1)) room.wanted room.terms room.letters after) =
     rw (k, read, some) (regroup front t (tokens_at version (count - (i + 1)) room.wanted room.terms room.letters after)) in
     sym one ∙ so_far

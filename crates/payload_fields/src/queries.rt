@@ -1,18 +1,17 @@
 //! Queries. Their parts are read one by one, and then joined, so that no bytes make this go deep.
 ghost use Rattle.std.specs.Prelude.{◌≡◌, ◌∷◌, [], IfOk, OnOk, length};
-ghost use Rattle.hac_model.specs.Payload.Fields.{failing_at};
 ghost use Rattle.hac_model.specs.Payload.QueryFields.{built, put, query_field, token_at, tokens_at};
-ghost use Rattle.hac_model.specs.Payload.QueryFields.{word_field};
 ghost use Rattle.hac_model.specs.declared.limits.TheConstants.{NESTING_LIMIT, QUERY_LIMIT};
 ghost use Rattle.hac_model.specs.declared.limits.TheConstants.{TERMS_LIMIT};
-ghost use Rattle.event_codec.specs.Reading.{GivesField, GivesSeen};
-ghost use Rattle.event_codec.specs.Tokens.{TakesTwo, token_of, tokens_of};
+ghost use Rattle.payload_fields.specs.Reading.{GivesField, GivesSeen};
+ghost use Rattle.payload_fields.specs.Tokens.{TakesTwo, token_of, tokens_of};
 
 use crate::bytes::Bytes;
 use crate::faults::Fault;
-use crate::fields::{num, word};
+use crate::fields::num;
 use crate::rooms::Room;
-use hac_model::{Memory, Name, Node, Number, Pile, Query, Term, Version};
+use crate::terms::whole_word;
+use hac_model::{Memory, Node, Number, Pile, Query, Term, Version};
 use std::alloc::Global;
 
 /// A part of a query without what it joins.
@@ -32,11 +31,7 @@ pub(crate) enum Token {
 
 /// A query.
 #[tactic(auto, unfolding(hac_model::specs::Payload::QueryFields::query_read))]
-pub(crate) fn query(
-    alloc: Global,
-    version: Version,
-    bytes: &mut Bytes,
-) -> Result<Query<Number>, Fault>
+pub fn query(alloc: Global, version: Version, bytes: &mut Bytes) -> Result<Query<Number>, Fault>
     ensures { GivesField result bytes.new ((query_field version).read bytes.old) }
 {
     let tokens = tokens(alloc, version, bytes)?;
@@ -95,17 +90,6 @@ fn next_token(
         5 => Ok(Token::And),
         6 => Ok(Token::Or),
         _ => Err(Fault::Bad { left }),
-    }
-}
-
-/// The letters of a term. Where they are bad, the fault is where `left` bytes are left.
-pub(crate) fn whole_word(alloc: Global, bytes: &mut Bytes, left: usize) -> Result<Name, Fault>
-    ensures { GivesField result bytes.new (failing_at left (word_field.read bytes.old)) }
-{
-    match word(alloc, bytes) {
-        Ok(letters) => Ok(letters),
-        Err(Fault::Memory) => Err(Fault::Memory),
-        Err(Fault::Bad { .. }) => Err(Fault::Bad { left }),
     }
 }
 

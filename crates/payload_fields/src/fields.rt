@@ -9,7 +9,7 @@ ghost use Rattle.hac_model.specs.Payload.Payloads.{name_field, space_field, targ
 ghost use Rattle.hac_model.specs.Payload.Payloads.{text_field};
 ghost use Rattle.hac_model.specs.Payload.QueryFields.{word_field};
 ghost use Rattle.hac_model.specs.Script.PathWords.{is_path_word};
-ghost use Rattle.event_codec.specs.Reading.{GivesField, run_in};
+ghost use Rattle.payload_fields.specs.Reading.{GivesField, run_in};
 
 use crate::bytes::Bytes;
 use crate::faults::Fault;
@@ -26,7 +26,7 @@ pub(crate) const SPACE_LIMIT: usize = 32;
 
 /// How many there are of something: a number of four bytes in each version.
 #[tactic(auto, unfolding(hac_model::specs::Payload::Fields::number_at))]
-pub(crate) fn count(bytes: &mut Bytes) -> Result<u64, Fault>
+pub fn count(bytes: &mut Bytes) -> Result<u64, Fault>
     ensures { GivesField result bytes.new (count.read bytes.old) }
 {
     if bytes.left() < 4 {
@@ -38,7 +38,7 @@ pub(crate) fn count(bytes: &mut Bytes) -> Result<u64, Fault>
 }
 
 /// The number of an entry at the front: four bytes in version One, and eight in version Two.
-pub(crate) fn num(version: Version, bytes: &mut Bytes) -> Result<Number, Fault>
+pub fn num(version: Version, bytes: &mut Bytes) -> Result<Number, Fault>
     ensures { GivesField result bytes.new ((num version).read bytes.old) }
 {
     match version {
@@ -65,7 +65,7 @@ fn long_number(bytes: &mut Bytes) -> Result<u64, Fault>
 
 /// The name of an entry.
 #[tactic(auto, unfolding(hac_model::specs::Payload::Fields::run_at))]
-pub(crate) fn name(alloc: Global, bytes: &mut Bytes) -> Result<Name, Fault>
+pub fn name(alloc: Global, bytes: &mut Bytes) -> Result<Name, Fault>
     ensures { GivesField result bytes.new (name_field.read bytes.old) }
 {
     match short_run(bytes.rest(), NAME_LIMIT) {
@@ -120,7 +120,7 @@ fn run(bytes: &[u8], count: usize, most: usize) -> Option<&[u8]>
 
 /// The name of a space.
 #[tactic(auto, unfolding(hac_model::specs::Payload::Fields::run_at))]
-pub(crate) fn space(alloc: Global, bytes: &mut Bytes) -> Result<Name, Fault>
+pub fn space(alloc: Global, bytes: &mut Bytes) -> Result<Name, Fault>
     ensures { GivesField result bytes.new (space_field.read bytes.old) }
 {
     match short_run(bytes.rest(), SPACE_LIMIT) {
@@ -134,7 +134,7 @@ pub(crate) fn space(alloc: Global, bytes: &mut Bytes) -> Result<Name, Fault>
 
 /// The bytes of a file.
 #[tactic(auto, unfolding(hac_model::specs::Payload::Fields::run_at))]
-pub(crate) fn text(alloc: Global, bytes: &mut Bytes) -> Result<Text, Fault>
+pub fn text(alloc: Global, bytes: &mut Bytes) -> Result<Text, Fault>
     ensures { GivesField result bytes.new (text_field.read bytes.old) }
 {
     match long_run(bytes.rest(), TEXT_LIMIT as usize) {
@@ -148,7 +148,7 @@ pub(crate) fn text(alloc: Global, bytes: &mut Bytes) -> Result<Text, Fault>
 
 /// Where a symbolic link leads.
 #[tactic(auto, unfolding(hac_model::specs::Payload::Fields::run_at))]
-pub(crate) fn target(alloc: Global, bytes: &mut Bytes) -> Result<Text, Fault>
+pub fn target(alloc: Global, bytes: &mut Bytes) -> Result<Text, Fault>
     ensures { GivesField result bytes.new (target_field.read bytes.old) }
 {
     match middle_run(bytes.rest(), TARGET_LIMIT as usize) {

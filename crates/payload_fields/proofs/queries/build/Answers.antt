@@ -1,9 +1,9 @@
 use Rattle.std.proofs.Common.{◌≡◌, [], ◌∷◌, ◌++◌, sym, ◌∙◌}
 use Rattle.std.proofs.lemmas.List.{append-nil}
 use Rattle.hac_model.specs.Payload.QueryFields.{built}
-use Rattle.event_codec.specs.Tokens.{token_of, tokens_of}
-use Rattle.event_codec.proofs.PartLemmas.{built-last, built-none}
-use Rattle.event_codec.proofs.queries.build.Goals as goal
+use Rattle.payload_fields.specs.Tokens.{token_of, tokens_of}
+use Rattle.payload_fields.proofs.PartLemmas.{built-last, built-none}
+use Rattle.payload_fields.proofs.queries.build.Goals as goal
 
 pub parts-preserved : goal.parts-preserved
 parts-preserved c =

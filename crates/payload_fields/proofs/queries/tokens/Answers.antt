@@ -4,9 +4,9 @@ use Rattle.std.proofs.lemmas.List.{nil_from_length}
 use Rattle.std.proofs.lemmas.Result.{err_from_is_err_and}
 use Rattle.hac_model.specs.Payload.QueryFields.{room_after, tokens_at}
 use Rattle.hac_model.specs.declared.limits.TheConstants.{NESTING_LIMIT, QUERY_LIMIT, TERMS_LIMIT}
-use Rattle.event_codec.specs.Tokens.{room_of, token_of, tokens_of}
-use Rattle.event_codec.proofs.PartLemmas.{map-last, parts_done, parts_short, part_barred, part_fails, part_read}
-use Rattle.event_codec.proofs.queries.tokens.Goals as goal
+use Rattle.payload_fields.specs.Tokens.{room_of, token_of, tokens_of}
+use Rattle.payload_fields.proofs.PartLemmas.{map-last, parts_done, parts_short, part_barred, part_fails, part_read}
+use Rattle.payload_fields.proofs.queries.tokens.Goals as goal
 
 pub returns-in_default : goal.returns-in_default
 returns-in_default c =

@@ -1,20 +1,17 @@
-//! The fields of events as bytes, each added to those before it.
+//! Fields as bytes, each added to those before it.
 ghost use Rattle.std.specs.Prelude.{◌≡◌, ◌++◌, ◌∷◌, ◌<◌, ◌≤◌, ◌^◌, [], IsTrue, OnOk, length};
 ghost use Rattle.std.specs.Int.{w8, w16, w32, w64, to_le_bytes};
 ghost use Rattle.hac_model.specs.Payload.Fields.{count, num};
-ghost use Rattle.hac_model.specs.Payload.Payloads.{mark_field, name_field};
 ghost use Rattle.hac_model.specs.Query.Queries.{are_terms, letter_count};
-ghost use Rattle.hac_model.specs.Payload.QueryFields.{are_nums, query_bytes, token_field};
-ghost use Rattle.hac_model.specs.Payload.QueryFields as token;
+ghost use Rattle.hac_model.specs.Payload.QueryFields.{are_nums, query_bytes};
 ghost use Rattle.hac_model.specs.Payload.States.{term_field};
 ghost use Rattle.hac_model.specs.declared.limits.TheConstants.{QUERY_LIMIT};
-ghost use Rattle.hac_model.specs.declared.versions.Version.{Version};
 
 use byteorder::{ByteOrder, LittleEndian};
-use hac_model::{Kind, Memory, Name, Node, Number, Query, Term, Version};
+use hac_model::{Memory, Node, Number, Query, Term, Version};
 
 /// Adds how many there are of something: four bytes in each version.
-pub(crate) fn put_count(out: &mut Vec<u8>, number: u64) -> Result<(), Memory>
+pub fn put_count(out: &mut Vec<u8>, number: u64) -> Result<(), Memory>
     requires { IsTrue (count.fits number) }
     ensures { OnOk result (out.new.items ≡ out.old.items ++ count.text number) }
 {
@@ -25,7 +22,7 @@ pub(crate) fn put_count(out: &mut Vec<u8>, number: u64) -> Result<(), Memory>
 }
 
 /// Adds the number of an entry: four bytes in version One, and eight in version Two.
-pub(crate) fn put_num(out: &mut Vec<u8>, version: Version, number: Number) -> Result<(), Memory>
+pub fn put_num(out: &mut Vec<u8>, version: Version, number: Number) -> Result<(), Memory>
     requires { IsTrue ((num version).fits number) }
     ensures { OnOk result (out.new.items ≡ out.old.items ++ (num version).text number) }
 {
@@ -47,7 +44,7 @@ fn put_long_number(out: &mut Vec<u8>, number: u64) -> Result<(), Memory>
 
 /// Adds bytes behind a byte that says how many they are.
 #[tactic(auto, using(crate::proofs::PutLemmas::puts))]
-pub(crate) fn put_short(out: &mut Vec<u8>, run: &[u8]) -> Result<(), Memory>
+pub fn put_short(out: &mut Vec<u8>, run: &[u8]) -> Result<(), Memory>
     requires { length run.now < 2 ^ 8 }
     ensures { OnOk result (out.new.items ≡ out.old.items ++
         (to_le_bytes w8 (length run.now) ++ run.now)) }
@@ -59,7 +56,7 @@ pub(crate) fn put_short(out: &mut Vec<u8>, run: &[u8]) -> Result<(), Memory>
 
 /// Adds bytes behind two bytes that say how many they are.
 #[tactic(auto, using(crate::proofs::PutLemmas::puts))]
-pub(crate) fn put_middle(out: &mut Vec<u8>, run: &[u8]) -> Result<(), Memory>
+pub fn put_middle(out: &mut Vec<u8>, run: &[u8]) -> Result<(), Memory>
     requires { length run.now < 2 ^ 16 }
     ensures { OnOk result (out.new.items ≡ out.old.items ++
         (to_le_bytes w16 (length run.now) ++ run.now)) }
@@ -73,7 +70,7 @@ pub(crate) fn put_middle(out: &mut Vec<u8>, run: &[u8]) -> Result<(), Memory>
 
 /// Adds bytes behind four bytes that say how many they are.
 #[tactic(auto, using(crate::proofs::PutLemmas::puts))]
-pub(crate) fn put_long(out: &mut Vec<u8>, run: &[u8]) -> Result<(), Memory>
+pub fn put_long(out: &mut Vec<u8>, run: &[u8]) -> Result<(), Memory>
     requires { length run.now < 2 ^ 32 }
     ensures { OnOk result (out.new.items ≡ out.old.items ++
         (to_le_bytes w32 (length run.now) ++ run.now)) }
@@ -85,7 +82,7 @@ pub(crate) fn put_long(out: &mut Vec<u8>, run: &[u8]) -> Result<(), Memory>
 
 /// Adds a kind and the number of an entry.
 #[tactic(auto, using(crate::proofs::PutLemmas::puts))]
-pub(crate) fn put_numbered(
+pub fn put_numbered(
     out: &mut Vec<u8>,
     version: Version,
     kind: u8,
@@ -98,44 +95,9 @@ pub(crate) fn put_numbered(
     put_num(out, version, number)
 }
 
-/// Adds a kind, the number of a directory and a name in it.
-#[tactic(auto, using(crate::proofs::PutLemmas::puts))]
-pub(crate) fn put_named(
-    out: &mut Vec<u8>,
-    version: Version,
-    kind: u8,
-    dir: Number,
-    name: &Name,
-) -> Result<(), Memory>
-    requires dir { IsTrue ((num version).fits dir) }
-    requires name { IsTrue (name_field.fits name.now) }
-    ensures { OnOk result (out.new.items ≡ out.old.items ++ kind ∷
-        ((num version).text dir ++ name_field.text name.now)) }
-{
-    put_numbered(out, version, kind, dir)?;
-    put_short(out, name.as_bytes())
-}
-
-/// Adds what an item is marked as.
-pub(crate) fn put_mark(out: &mut Vec<u8>, kind: Kind) -> Result<(), Memory>
-    ensures { OnOk result (out.new.items ≡ out.old.items ++ mark_field.text kind) }
-{
-    match kind {
-        Kind::Unlinked => out.push(0)?,
-        Kind::Permanent => out.push(1)?,
-        Kind::Prohibited => out.push(2)?,
-        Kind::Transient => {}
-    }
-    Ok(())
-}
-
 /// Adds a query: each `NOT`, `AND` and `OR` before what it joins.
 #[tactic(auto, using(crate::proofs::PutLemmas::puts))]
-pub(crate) fn put_query(
-    out: &mut Vec<u8>,
-    version: Version,
-    query: &Query<Number>,
-) -> Result<(), Memory>
+pub fn put_query(out: &mut Vec<u8>, version: Version, query: &Query<Number>) -> Result<(), Memory>
     requires terms { IsTrue (are_terms query.now) }
     requires letters { letter_count query.now ≤ QUERY_LIMIT }
     requires numbers { IsTrue (are_nums version query.now) }
@@ -163,14 +125,18 @@ pub(crate) fn put_query(
 
 /// Adds a term.
 #[tactic(auto, using(crate::proofs::PutLemmas::puts))]
-fn put_term(out: &mut Vec<u8>, term: &Term) -> Result<(), Memory>
+pub fn put_term(out: &mut Vec<u8>, term: &Term) -> Result<(), Memory>
     requires { IsTrue (term_field.fits term.now) }
-    ensures { OnOk result ((version : Version) → out.new.items ≡ out.old.items ++
-        (token_field version).text (token.Term term.now)) }
+    ensures { OnOk result (out.new.items ≡ out.old.items ++ term_field.text term.now) }
 {
     match term {
-        Term::Word(_) => out.push(1)?,
-        Term::Prefix(_) => out.push(2)?,
+        Term::Word(letters) => {
+            out.push(1)?;
+            put_middle(out, letters.as_bytes())
+        }
+        Term::Prefix(letters) => {
+            out.push(2)?;
+            put_middle(out, letters.as_bytes())
+        }
     }
-    put_middle(out, term.letters())
 }

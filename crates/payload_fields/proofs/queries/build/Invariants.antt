@@ -1,7 +1,7 @@
 use Rattle.std.proofs.Common.{◌≡◌, [], vec_len}
 use Rattle.hac_model.specs.Payload.QueryFields.{built}
-use Rattle.event_codec.specs.Tokens.{tokens_of}
-use Rattle.event_codec.proofs.queries.build.Given as goal
+use Rattle.payload_fields.specs.Tokens.{tokens_of}
+use Rattle.payload_fields.proofs.queries.build.Given as goal
 
 abbrev pub invariant-parts : goal.invariant-parts
 invariant-parts l = built (tokens_of l.tokens.items) l.pile ≡ built (tokens_of l.fn.tokens.items) []

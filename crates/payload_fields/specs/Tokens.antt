@@ -3,9 +3,9 @@ use Rattle.std.specs.Prelude.{◌≡◌, ℕ, Bool, if◌then◌else◌, List, �
 use Rattle.hac_model.specs.Query.Formula.{Formula}
 use Rattle.hac_model.specs.Payload.QueryFields as query
 use Rattle.hac_model.specs.Payload.QueryFields.{room_after}
-use Rattle.event_codec.specs.declared.queries.Token.{Token}
-use Rattle.event_codec.specs.declared.queries.Token.TheVariants.{Term, Dir, Not, And, Or}
-use Rattle.event_codec.specs.declared.rooms.Room.{Room}
+use Rattle.payload_fields.specs.declared.queries.Token.{Token}
+use Rattle.payload_fields.specs.declared.queries.Token.TheVariants.{Term, Dir, Not, And, Or}
+use Rattle.payload_fields.specs.declared.rooms.Room.{Room}
 
 -- the part that the code holds
 abbrev pub token_of : Token → query.Token

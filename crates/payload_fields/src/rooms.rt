@@ -1,7 +1,7 @@
 //! What may still come of a query.
 ghost use Rattle.std.specs.Prelude.{◌≡◌, ◌∷◌, [], ◌&&◌, ◌-◌, nat_le, if◌then◌else◌, IfOk};
 ghost use Rattle.hac_model.specs.declared.limits.TheConstants as limits;
-ghost use Rattle.event_codec.specs.Tokens.{TakesPart, room_of, token_of};
+ghost use Rattle.payload_fields.specs.Tokens.{TakesPart, room_of, token_of};
 
 use crate::queries::Token;
 use hac_model::{Memory, NESTING_LIMIT, Pile, QUERY_LIMIT, TERMS_LIMIT};

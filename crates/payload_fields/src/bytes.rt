@@ -1,13 +1,13 @@
 //! The bytes of a payload that are still to be read.
 ghost use Rattle.std.specs.Prelude.{◌≡◌, ◌<◌, ◌≤◌, ◌^◌, ◌∷◌, length, take, drop, MatchOption, []};
-ghost use Rattle.event_codec.specs.declared.faults.Fault.TheVariants as fault;
+ghost use Rattle.payload_fields.specs.declared.faults.Fault.TheVariants as fault;
 
 use crate::faults::Fault;
 use std::marker::Model;
 
 /// A place in a payload, seen as the bytes from there on.
 #[derive(Drop)]
-pub(crate) struct Bytes<'a> {
+pub struct Bytes<'a> {
     rest: &'a [u8],
 }
 
@@ -21,7 +21,7 @@ impl<'a> Model for Bytes<'a> {
 
 impl<'a> Bytes<'a> {
     /// The place of the first byte.
-    pub(crate) fn new(bytes: &'a [u8]) -> Bytes<'a>
+    pub fn new(bytes: &'a [u8]) -> Bytes<'a>
         ensures { result ≡ bytes.now }
     {
         Bytes { rest: bytes }
@@ -35,7 +35,7 @@ impl<'a> Bytes<'a> {
     }
 
     /// How many bytes are left.
-    pub(crate) fn left(&self) -> usize
+    pub fn left(&self) -> usize
         ensures left { result ≡ length self.now }
         ensures bound { result < 2 ^ 63 }
     {
@@ -51,7 +51,7 @@ impl<'a> Bytes<'a> {
     }
 
     /// Takes the next byte, where there is one.
-    pub(crate) fn byte(&mut self) -> Option<u8>
+    pub fn byte(&mut self) -> Option<u8>
         ensures { MatchOption result ((self.old ≡ []) × (self.new ≡ []))
             (λ byte. self.old ≡ byte ∷ self.new) }
     {
@@ -61,7 +61,7 @@ impl<'a> Bytes<'a> {
     }
 
     /// The fault of a field that begins here.
-    pub(crate) fn bad(&self) -> Fault
+    pub fn bad(&self) -> Fault
         ensures { result ≡ fault.Bad (length self.now) }
     {
         Fault::Bad { left: self.left() }

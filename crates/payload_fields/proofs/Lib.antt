@@ -1,0 +1,3 @@
+pub mod FrontLemmas
+mod PartLemmas
+pub mod PutLemmas
