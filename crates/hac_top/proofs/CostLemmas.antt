@@ -3,6 +3,7 @@ use Rattle.std.proofs.Common.{◌≡◌, ℕ, zero, suc, ◌+◌, ◌-◌, ◌*�
 use Rattle.std.specs.Prelude.{if◌then◌else◌, replicate, Option}
 use Rattle.std.specs.List.{range_with_len}
 use Rattle.std.proofs.Math.Seq.{take-append_seam}
+use Rattle.std.proofs.lemmas.List.{replicate-append-replicate}
 use Rattle.hac_model.specs.Run.Costs.{answering_line, lines_cost}
 use Rattle.hac_model.specs.Run.Play.{Given, Setting, Turn, after_events, can_step, events_in, given_behind, have_room, item_turn, left_by, nothing_given, refused_turn, steps_behind, turns}
 use Rattle.hac_model.specs.Script.Lines.{Item}
@@ -85,13 +86,7 @@ turn-within setting events probes now asks = omega (arith, asks, turn-asks setti
 
 -- steps, and then a batch of them
 steps-more : (s : State) (done batch : ℕ) → costs s (replicate (done + batch) Step) ≡ costs s (replicate done Step) + costs (apply_all s (replicate done Step)) (replicate batch Step)
-steps-more s done batch = ap (costs s) (repeated done) ∙ costs-append (replicate done Step) (replicate batch Step) s
-  where
-    repeated : (done : ℕ) → replicate (done + batch) Step ≡ replicate done Step ++ replicate batch Step
-    repeated zero = ap (λ (n : ℕ). replicate n Step) (omega arith)
-    repeated (suc done) =
-        let next : suc done + batch ≡ suc (done + batch) = omega arith in
-        ap (λ (n : ℕ). replicate n Step) next ∙ ap (λ (events : List Event). Step ∷ events) (repeated done)
+steps-more s done batch = ap (costs s) (sym (replicate-append-replicate done batch Step)) ∙ costs-append (replicate done Step) (replicate batch Step) s
 
 -- a batch asks no more than it adds
 pub batch-asks : (s : State) (setting : Setting) (done batch all probes mid now : ℕ) → done + batch ≡ all → setting.state ≡ apply_all s (replicate done Step) → mid ≤ probes + costs s (replicate done Step) →

@@ -48,8 +48,9 @@ use std::sync::ledger::Ledger;
 /// With `--make` the script is one that is drawn from NUMBER. Nothing of the source is taken then,
 /// and of the replies only that to `counts` is written, which is asked behind the script.
 ///
-/// `probes` counts how often a term is asked of an item: where the file, the script and the spaces
-/// are told, at most as often as opening the store may take, and each line that is taken up.
+/// `probes` counts how often a term is asked of an item. Where the disk, the source and the spaces
+/// tell what they hold, and the file has a store or gets one, that is at most as often as opening
+/// it may take, and each line that is taken up.
 pub fn run<S: Source, K: Sink, D: Disk, P: Spaces, L: Ledger>(
     alloc: Global,
     words: &[String],
