@@ -2,6 +2,7 @@ pub mod JudgeLemmas
 pub mod MeaningLemmas
 pub mod ToldLemmas
 pub mod SettleLemmas
+pub mod NotedLemmas
 pub mod ProbeLemmas
 pub mod ApplyLemmas
 pub mod SeveralLemmas

@@ -1,12 +1,12 @@
 //! What a directory says of an item in the next state.
-ghost use Rattle.std.specs.Prelude.{◌≡◌, ◌≤◌, ◌+◌, ◌&&◌, ◌||◌, ℕ, Bool, IsTrue, false, is_some};
+ghost use Rattle.std.specs.Prelude.{◌≡◌, ◌≤◌, ◌+◌, ◌&&◌, ◌||◌, ℕ, Bool, IsTrue, Some, false, is_some};
 ghost use Rattle.std.specs.Prelude.{if◌then◌else◌};
 ghost use Rattle.std.specs.List.{list_any};
 ghost use Rattle.hac_model.specs.Query.Queries.{query_meaning, terms};
 ghost use Rattle.hac_model.specs.Tree.Costs.{terms_at};
 ghost use Rattle.hac_model.specs.Tree.Links.{atom, holds, is_item, is_lent, is_permanent};
 ghost use Rattle.hac_model.specs.Tree.Links.{is_semantic};
-ghost use Rattle.hac_model.specs.Tree.Links.{passes, provide, satisfies};
+ghost use Rattle.hac_model.specs.Tree.Links.{passes, provide, query_at};
 ghost use Rattle.reeval.specs.Judging.{is_linked, judgement, verdict_of};
 ghost use Rattle.reeval.specs.Told.{told};
 
@@ -82,20 +82,28 @@ impl<'a, Y: Layout, A: Atoms, B: Before> Sight<'a, Y, A, B> {
         ensures probes { probes.new ≤ probes.old
             + (if asks then terms_at (Y.state self.now.layout.now) dir else 0) }
     {
-        if self.layout.query(dir).is_none() || !self.layout.is_item(item) {
-            return Verdict {
+        match self.layout.query(dir) {
+            Some(query) if self.layout.is_item(item) => Verdict {
+                found: self.finds(dir, query, item, asks, probes),
+                lent: self.is_lent(dir, item),
+            },
+            _ => Verdict {
                 found: false,
                 lent: false,
-            };
-        }
-        Verdict {
-            found: self.finds(dir, item, asks, probes),
-            lent: self.is_lent(dir, item),
+            },
         }
     }
 
     /// Whether a directory finds an item, or is known to find it where its query is not asked.
-    fn finds<L: Ledger>(&self, dir: Number, item: Number, asks: bool, probes: &mut Steps<L>) -> bool
+    fn finds<L: Ledger>(
+        &self,
+        dir: Number,
+        query: &Query<Number>,
+        item: Number,
+        asks: bool,
+        probes: &mut Steps<L>,
+    ) -> bool
+        requires { query_at (Y.state self.now.layout.now) dir ≡ Some query.now }
         ensures finds { IsTrue (is_item (Y.state self.now.layout.now) item) →
             A.atoms self.now.atoms.now ≡ atom (Y.state self.now.layout.now) →
             result ≡ (if asks then passes (Y.state self.now.layout.now)
@@ -106,7 +114,7 @@ impl<'a, Y: Layout, A: Atoms, B: Before> Sight<'a, Y, A, B> {
             + (if asks then terms_at (Y.state self.now.layout.now) dir else 0) }
     {
         if asks {
-            self.passes(dir, item, probes)
+            self.passes(dir, query, item, probes)
         } else {
             self.verdict(dir, item).found
         }
@@ -114,7 +122,14 @@ impl<'a, Y: Layout, A: Atoms, B: Before> Sight<'a, Y, A, B> {
 
     /// Whether a directory finds an item: queries judge it, the user says nothing of it there, the
     /// directory above provides it, and it satisfies the query. What costs least comes first.
-    fn passes<L: Ledger>(&self, dir: Number, item: Number, probes: &mut Steps<L>) -> bool
+    fn passes<L: Ledger>(
+        &self,
+        dir: Number,
+        query: &Query<Number>,
+        item: Number,
+        probes: &mut Steps<L>,
+    ) -> bool
+        requires { query_at (Y.state self.now.layout.now) dir ≡ Some query.now }
         ensures passes { IsTrue (is_item (Y.state self.now.layout.now) item) →
             A.atoms self.now.atoms.now ≡ atom (Y.state self.now.layout.now) →
             result ≡ passes (Y.state self.now.layout.now)
@@ -125,25 +140,11 @@ impl<'a, Y: Layout, A: Atoms, B: Before> Sight<'a, Y, A, B> {
         self.layout.is_judged(item)
             && self.layout.is_unmarked(dir, item)
             && self.within(self.layout.parent(dir), item)
-            && self.satisfies(dir, item, probes)
-    }
-
-    /// Whether an item satisfies the query of a directory.
-    fn satisfies<L: Ledger>(&self, dir: Number, item: Number, probes: &mut Steps<L>) -> bool
-        ensures satisfies { A.atoms self.now.atoms.now ≡ atom (Y.state self.now.layout.now) →
-            result ≡ satisfies (Y.state self.now.layout.now)
-            (is_linked (told self.now.news.now (verdict_of (B.state self.now.before.now) item)))
-            dir item }
-        ensures probes { probes.new ≤ probes.old + terms_at (Y.state self.now.layout.now) dir }
-    {
-        match self.layout.query(dir) {
-            Some(query) => self.satisfies_query(query, item, probes),
-            None => false,
-        }
+            && self.satisfies(query, item, probes)
     }
 
     /// Whether an item satisfies a query.
-    fn satisfies_query<L: Ledger>(
+    fn satisfies<L: Ledger>(
         &self,
         query: &Query<Number>,
         item: Number,

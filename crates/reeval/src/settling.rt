@@ -62,6 +62,7 @@ pub fn settle<Y: Layout, A: Atoms, B: Before, L: Ledger>(
         → is_moved (B.state before.now) (Y.state layout.now) stops.now item ≡ false
         → probes.new ≤ probes.old + terms_asked (Y.state layout.now) stops.now }
 {
+    let leans = any_leans(stops);
     let mut news = Vec::new(alloc);
     let mut moved = Vec::new(alloc);
     for stop in stops {
@@ -77,6 +78,7 @@ pub fn settle<Y: Layout, A: Atoms, B: Before, L: Ledger>(
                 news.as_slice(),
                 stop.dir,
                 item,
+                leans,
                 &mut moved,
             )?;
         }
@@ -112,6 +114,13 @@ pub fn settle_all<Y: Layout, A: Atoms, B: Before, L: Ledger>(
         delta.extend_from_slice(news.as_slice())?;
     }
     Ok(())
+}
+
+/// Whether some stop may depend on another. If none does, nobody asks what moved.
+fn any_leans(stops: &[Stop]) -> bool
+    ensures { result ≡ list_any (λ stop. stop.leans) stops.now }
+{
+    stops.iter().any(|stop| stop.leans)
 }
 
 /// Whether the directory of a stop depends on one of those that moved. Where it depends on no other
@@ -178,7 +187,7 @@ fn judge_anew<Y: Layout, A: Atoms, B: Before, L: Ledger>(
 }
 
 /// Adds a directory to those that moved, if it provides the item now and didn't before, or the
-/// other way round.
+/// other way round. Where no stop leans on another nothing is added, and nothing looked up.
 fn note_move<Y: Layout, A: Atoms, B: Before>(
     layout: &Y,
     atoms: &A,
@@ -186,13 +195,14 @@ fn note_move<Y: Layout, A: Atoms, B: Before>(
     news: &[Change],
     dir: Number,
     item: Number,
+    leans: bool,
     moved: &mut Vec<Number>,
 ) -> Result<(), Memory>
-    ensures { OnOk result ((d : ℕ) → has moved.new.items d ≡ (has moved.old.items d || (dir == d
-        && not (beq
+    ensures { OnOk result ((d : ℕ) → has moved.new.items d ≡ (has moved.old.items d || (leans
+        && (dir == d && not (beq
         (provide (B.state before.now) (column (links (B.state before.now)) item) dir item)
         (provide (Y.state layout.now)
-        (is_linked (told news.now (verdict_of (B.state before.now) item))) dir item))))) }
+        (is_linked (told news.now (verdict_of (B.state before.now) item))) dir item)))))) }
 {
     let sight = Sight {
         layout,
@@ -200,7 +210,7 @@ fn note_move<Y: Layout, A: Atoms, B: Before>(
         before,
         news,
     };
-    if before.provides(dir, item) != sight.within(dir, item) {
+    if leans && before.provides(dir, item) != sight.within(dir, item) {
         moved.push(dir)?;
     }
     Ok(())

@@ -1,11 +1,11 @@
 use Rattle.std.specs.Prelude.{◌≡◌, ◌≤◌, ◌+◌, [], drop, false, true}
-use Rattle.std.specs.List.{list_all}
+use Rattle.std.specs.List.{list_all, list_any}
 use Rattle.hac_model.specs.Tree.Links.{atom}
 use Rattle.reeval.specs.Judging.{verdict_of}
 use Rattle.reeval.specs.Probes.{is_moved, terms_along, terms_asked}
 use Rattle.reeval.specs.Routes.{Covers, dirs_of}
 use Rattle.reeval.specs.Told.{is_on, told}
-use Rattle.reeval.proofs.SettleLemmas.{Settled}
+use Rattle.reeval.proofs.NotedLemmas.{Noted}
 use Rattle.reeval.proofs.settling.settle.Given as goal
 
 -- The directories so far are settled, and all news are on the item. The queries of those that are left can still be asked,
@@ -15,10 +15,9 @@ invariant-loop-stop g l =
     (list_all (is_on l.item) l.news.items ≡ true) × (
     g.A.Atoms.atoms l.atoms ≡ atom (g.Y.Layout.state l.layout)
     → (covers : Covers (g.B.Before.state l.before) (g.Y.Layout.state l.layout) l.stops l.item)
-    → Settled (g.B.Before.state l.before) (g.Y.Layout.state l.layout) l.item l.stops covers (dirs_of (drop l.stop-index l.stops))
+    → (noted : Noted (g.B.Before.state l.before) (g.Y.Layout.state l.layout) l.item l.stops covers l.leans (dirs_of (drop l.stop-index l.stops))
     (told l.news.items (verdict_of (g.B.Before.state l.before) l.item)) l.moved.items) × (
+    is_moved (g.B.Before.state l.before) (g.Y.Layout.state l.layout) l.stops l.item ≡ false
+    → (noted.all ≡ []) × (l.probes + terms_asked (g.Y.Layout.state l.layout) (drop l.stop-index l.stops) ≤ l.fn.probes + terms_asked (g.Y.Layout.state l.layout) l.stops))) × (
     l.probes + terms_along (g.Y.Layout.state l.layout) (drop l.stop-index l.stops) ≤ l.fn.probes + terms_along (g.Y.Layout.state l.layout) l.stops) × (
-    g.A.Atoms.atoms l.atoms ≡ atom (g.Y.Layout.state l.layout)
-    → Covers (g.B.Before.state l.before) (g.Y.Layout.state l.layout) l.stops l.item
-    → is_moved (g.B.Before.state l.before) (g.Y.Layout.state l.layout) l.stops l.item ≡ false
-    → (l.moved.items ≡ []) × (l.probes + terms_asked (g.Y.Layout.state l.layout) (drop l.stop-index l.stops) ≤ l.fn.probes + terms_asked (g.Y.Layout.state l.layout) l.stops))
+    l.leans ≡ list_any (λ stop. stop.leans) l.stops)

@@ -5,7 +5,7 @@ use Rattle.hac_model.specs.declared.terms.Term.{Term}
 use Rattle.reeval.specs.Judging.{is_linked, verdict_of}
 use Rattle.reeval.specs.Told.{told}
 use Rattle.reeval.proofs.MeaningLemmas.{meaning-same}
-use Rattle.reeval.proofs.judging.Sight.satisfies_query.Goals as goal
+use Rattle.reeval.proofs.judging.Sight.satisfies.Goals as goal
 
 pub returns-clause-satisfies : goal.returns-clause-satisfies
 returns-clause-satisfies g c = λ atoms.
