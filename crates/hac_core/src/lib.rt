@@ -12,7 +12,6 @@ mod drafts;
 mod events;
 mod machine;
 mod marking;
-mod numbers;
 mod questions;
 mod replay;
 mod sessions;

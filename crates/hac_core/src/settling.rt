@@ -12,12 +12,11 @@ ghost use Rattle.hac_core.specs.Settling.{answered, keeping_cause, limits_cause,
 ghost use Rattle.file_tree.specs.Seated.{is_seated};
 
 use crate::drafts::{Change, Settled};
-use crate::numbers::{mounting, syncing};
 use event_check::{counts_after, version, within_all};
 use hac_model::{Answers, Deny, Event, LimitWord, Memory, Name, Number, Query, Refusal};
 use kept_state::KeptState;
 use std::alloc::Global;
-use tree_answers::told_for;
+use tree_answers::{mounting, syncing, told_for};
 
 /// The outcome of a change, given what spaces answered, unless it would exceed a limit.
 pub fn settled(

@@ -11,5 +11,6 @@ pub mod ReferringLemmas
 pub mod AtomLemmas
 pub mod ToldLemmas
 pub mod QuestionLemmas
+pub mod LoopLemmas
 pub mod NumberingLemmas
 pub mod NextLinkLemmas

@@ -32,7 +32,7 @@ pub fn documents_named(
 
 /// The same of a mount that comes: it takes the next number, and its documents have the names of
 /// `list` and the numbers behind it.
-pub fn mounted_named(
+pub(crate) fn mounted_named(
     alloc: Global,
     tree: &Tree,
     list: &[Name],
@@ -49,7 +49,7 @@ pub fn mounted_named(
 }
 
 /// The same of a mount once it has the documents of `list`.
-pub fn synced_named(
+pub(crate) fn synced_named(
     alloc: Global,
     tree: &Tree,
     mount: Number,

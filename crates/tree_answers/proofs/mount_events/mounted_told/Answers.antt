@@ -2,8 +2,8 @@ use Rattle.std.proofs.Common.{ap, sym, [], ◌++◌, ◌+◌, drop, map, ◌∙�
 use Rattle.hac_model.specs.Run.Asks.{documents_named}
 use Rattle.hac_model.specs.Tree.Mounting.{mounted}
 use Rattle.tree_answers.proofs.NumberingLemmas.{mounted-named-alike}
-use Rattle.hac_core.proofs.LoopLemmas.{made-more}
-use Rattle.hac_core.proofs.numbers.mounted_told.Goals as goal
+use Rattle.tree_answers.proofs.LoopLemmas.{made-more}
+use Rattle.tree_answers.proofs.mount_events.mounted_told.Goals as goal
 
 pub loop-names-preserved : goal.loop-names-preserved
 loop-names-preserved c dir name space =

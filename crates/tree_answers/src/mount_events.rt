@@ -6,10 +6,10 @@ ghost use Rattle.hac_model.specs.Spaces.Answering.{AreRisingNames};
 ghost use Rattle.hac_model.specs.Tree.{is_mount_at};
 ghost use Rattle.hac_model.specs.Tree.Mounting.{mounted, synced};
 
+use crate::numbering::{mounted_named, synced_named};
 use hac_model::{Answers, Event, Memory, Name, Number, Seq};
 use kept_state::KeptState;
 use std::alloc::Global;
-use tree_answers::{mounted_named, synced_named};
 
 /// A space is mounted with the documents that it listed.
 pub fn mounting(

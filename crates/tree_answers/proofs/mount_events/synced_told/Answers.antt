@@ -3,8 +3,8 @@ use Rattle.hac_model.specs.Run.Asks.{documents_named}
 use Rattle.hac_model.specs.Tree.Mounting.{synced}
 use Rattle.kept_state.proofs.StateLemmas.{same-mount}
 use Rattle.tree_answers.proofs.NumberingLemmas.{synced-named-alike}
-use Rattle.hac_core.proofs.LoopLemmas.{made-more}
-use Rattle.hac_core.proofs.numbers.synced_told.Goals as goal
+use Rattle.tree_answers.proofs.LoopLemmas.{made-more}
+use Rattle.tree_answers.proofs.mount_events.synced_told.Goals as goal
 
 pub synced_named-requires-clause-mount : goal.synced_named-requires-clause-mount
 synced_named-requires-clause-mount c = sym (same-mount c.args.kept.now.state c.tree-tree.result.now.state c.tree-tree.ensures.tree.bares c.args.mount) ∙ c.requires.mount

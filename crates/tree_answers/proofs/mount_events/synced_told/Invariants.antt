@@ -1,7 +1,7 @@
 use Rattle.std.proofs.Common.{◌≡◌, ◌++◌, [], drop, map}
 use Rattle.hac_model.specs.Run.Asks.{documents_named}
 use Rattle.hac_model.specs.Tree.Mounting.{synced}
-use Rattle.hac_core.proofs.numbers.synced_told.Given as goal
+use Rattle.tree_answers.proofs.mount_events.synced_told.Given as goal
 
 -- what was told so far, and what is told of the names to come, is all
 abbrev pub invariant-loop-names : goal.invariant-loop-names
