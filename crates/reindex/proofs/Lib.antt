@@ -12,3 +12,4 @@ pub mod AnewLemmas
 pub mod MoveLemmas
 pub mod GoneLemmas
 pub mod EventLemmas
+pub mod RootLemmas

@@ -132,10 +132,14 @@ pub(crate) fn is_below(kept: &KeptState, item: Number, dir: Number) -> bool
     is_below_in(kept.tree(), item, dir)
 }
 
-/// The same by the tree alone.
+/// The same by the tree alone. All items are below the root.
 fn is_below_in(tree: &Tree, item: Number, dir: Number) -> bool
     ensures { result ≡ is_below tree.now.state dir item }
 {
+    tree.know_layout();
+    if dir == Number::ROOT {
+        return tree.is_item(item);
+    }
     tree.is_item(item) && tree.is_directory(dir) && tree.is_below(item, dir)
 }
 
