@@ -1,4 +1,5 @@
 pub mod RisingLemmas
+pub mod SetLemmas
 pub mod RowLemmas
 pub mod BlockLemmas
 pub mod SlotLemmas

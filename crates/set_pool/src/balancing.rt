@@ -44,7 +44,7 @@ impl Block {
         }
     }
 
-    fn measure(&mut self)
+    pub(crate) fn measure(&mut self)
         ensures { numbers_in self.new ≡ numbers_in self.old }
     {
         self.height = self

@@ -1,12 +1,13 @@
 //! Puts a number into a tree. Where a block is needed, one is taken from those that were set aside.
 ghost use Rattle.std.specs.Prelude.{◌≡◌, ◌≢◌, ◌+◌, ◌<◌, ◌≤◌, ◌↔◌, [], ◌∷◌, ◌++◌, IsTrue, not};
-ghost use Rattle.std.specs.Prelude.{vec_len};
+ghost use Rattle.std.specs.Prelude.{vec_len, MatchOption};
 ghost use Rattle.set_pool.specs.Rising.{Rises, inserted, is_among};
 ghost use Rattle.set_pool.specs.Rows.{LiesAt, members};
 ghost use Rattle.set_pool.specs.Trees.{TakesOneAtMost, numbers_in};
 
 use crate::rows::{Row, Side};
 use crate::trees::{Block, Link, Tree};
+use std::mem;
 
 impl Tree {
     /// Whether `value` was new. At most one block is taken.
@@ -33,6 +34,64 @@ impl Tree {
             }
             Link::Full(block) => block.insert(value, blocks),
         }
+    }
+
+    /// Whether it is one full row, all below `value`. Nothing rests on the answer but how quick the
+    /// next call is.
+    pub fn is_full_below(&self, value: u64) -> bool {
+        match &self.root {
+            Link::Full(block) => {
+                block.height == 1 && block.row.is_full() && block.row.last() < value
+            }
+            _ => false,
+        }
+    }
+
+    /// Puts the numbers of another tree behind its own, or gives it back if that isn't a block with
+    /// nothing on its left.
+    pub fn append(&mut self, last: Tree) -> Option<Tree>
+        ensures { MatchOption result (self.new ≡ self.old ++ last)
+            (λ back. (self.new ≡ self.old) × (back ≡ last)) }
+    {
+        match last.root {
+            Link::Full(block) => self.append_bare(block),
+            other => Some(Tree { root: other }),
+        }
+    }
+
+    fn append_bare(&mut self, last: Box<Block>) -> Option<Tree>
+        ensures { MatchOption result (self.new ≡ self.old ++ numbers_in last.value)
+            (λ back. (self.new ≡ self.old) × (back ≡ numbers_in last.value)) }
+    {
+        if last.left.is_empty() {
+            self.append_block(last);
+            None
+        } else {
+            Some(Tree {
+                root: Link::Full(last),
+            })
+        }
+    }
+
+    #[cycle(append_block)]
+    fn append_block(&mut self, last: Box<Block>)
+        requires { last.value.left ≡ [] }
+        ensures { self.new ≡ self.old ++ numbers_in last.value }
+    {
+        match &mut self.root {
+            Link::Full(block) => block.append_block(last),
+            _ => self.go_left_of(last),
+        }
+    }
+
+    // It becomes the left side of a block.
+    fn go_left_of(&mut self, mut block: Box<Block>)
+        requires { block.value.left ≡ [] }
+        ensures { self.new ≡ self.old ++ numbers_in block.value }
+    {
+        block.left = mem::replace(self, Tree::new());
+        block.measure();
+        self.root = Link::Full(block);
     }
 
     pub fn is_empty(&self) -> bool
@@ -108,6 +167,17 @@ impl Block {
             return true;
         }
         self.insert_right(value, blocks)
+    }
+
+    #[cycle(append_block)]
+    fn append_block(&mut self, last: Box<Block>)
+        requires { last.value.left ≡ [] }
+        ensures { numbers_in self.new ≡ numbers_in self.old ++ numbers_in last.value }
+    {
+        let old = self.right.height();
+        self.right.append_block(last);
+        let new = self.right.height();
+        self.settle(old, new);
     }
 
     // A full row passes its greatest number to the right.

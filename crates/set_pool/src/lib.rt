@@ -6,6 +6,7 @@ mod balancing;
 mod growing;
 mod pool;
 mod rows;
+mod sets;
 mod shrinking;
 mod slots;
 mod trees;

@@ -161,7 +161,7 @@ impl SetPool {
         ensures inside { result ≡ is_in self.now set value }
         ensures rise { AllListsRise self.now }
     {
-        self.slots.tree(set.0 as usize).contains(value)
+        self.slots.set(set.0 as usize).contains(value)
     }
 
     /// How many numbers the set has. It goes over the whole set.
@@ -170,7 +170,7 @@ impl SetPool {
         ensures count { result ≡ length (members_of self.now set) }
         ensures rise { AllListsRise self.now }
     {
-        self.slots.tree(set.0 as usize).len()
+        self.slots.set(set.0 as usize).len()
     }
 
     /// The least number of the set that isn't below `value`.
@@ -179,7 +179,7 @@ impl SetPool {
         ensures first { result ≡ first_from value (members_of self.now set) }
         ensures rise { AllListsRise self.now }
     {
-        self.slots.tree(set.0 as usize).first_from(value)
+        self.slots.set(set.0 as usize).first_from(value)
     }
 
     /// Frees the set. Its name is free for another.

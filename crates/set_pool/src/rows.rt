@@ -40,7 +40,7 @@ impl Row {
         self.first
     }
 
-    fn last(&self) -> u64
+    pub fn last(&self) -> u64
         ensures { (front : List ℕ) × (members self.now ≡ front ++ result ∷ []) }
     {
         match self.rest.as_slice().last() {

@@ -1,4 +1,4 @@
-//! The names of sets, and the tree of each that is live. A name is the place of its slot; those
+//! The names of sets, and the numbers of each that is live. A name is the place of its slot; those
 //! that are free stand on a stack within the slots, so that a name that was freed is used again. It
 //! knows nothing of what is reserved.
 ghost use Rattle.std.specs.Prelude.{◌≡◌, ◌+◌, ◌<◌, ◌≤◌, [], length, not, false, IsTrue, OnErr};
@@ -9,7 +9,8 @@ ghost use Rattle.set_pool.specs.Lists.{members_at};
 ghost use Rattle.set_pool.specs.Slots.{link_of, members_in, slots_without};
 ghost use Rattle.set_pool.specs.Trees.{TakesOneAtMost};
 
-use crate::trees::{Block, Tree};
+use crate::sets::Set;
+use crate::trees::Block;
 use std::alloc::{AllocError, Global};
 use std::marker::Model;
 
@@ -24,7 +25,7 @@ pub struct Slots {
 enum Slot {
     /// The free name below this one on the stack, and how many there are below.
     Free(usize, usize),
-    Live(Tree),
+    Live(Set),
 }
 
 impl Model for Slots {
@@ -88,7 +89,7 @@ impl Slots {
     {
         let name = self.top;
         let (below, count) = self.slots[name].link();
-        self.slots[name] = Slot::Live(Tree::new());
+        self.slots[name] = Slot::Live(Set::new());
         self.top = below;
         self.free = count;
         name
@@ -105,14 +106,14 @@ impl Slots {
         self.free += 1;
     }
 
-    pub fn tree(&self, name: usize) -> &Tree
+    pub fn set(&self, name: usize) -> &Set
         requires { IsTrue (is_live_at self.now.lists name) }
-        ensures tree { result.now ≡ members_at self.now.lists name }
+        ensures set { result.now ≡ members_at self.now.lists name }
         ensures rises { Rises result.now }
         ensures rise { AllRise self.now.lists }
     {
         match &self.slots[name] {
-            Slot::Live(tree) => tree,
+            Slot::Live(set) => set,
             Slot::Free(_, _) => unreachable!(),
         }
     }
@@ -128,7 +129,7 @@ impl Slots {
         ensures rise { AllRise self.new.lists }
     {
         match &mut self.slots[name] {
-            Slot::Live(tree) => tree.insert(value, blocks),
+            Slot::Live(set) => set.insert(value, blocks),
             Slot::Free(_, _) => unreachable!(),
         }
     }
@@ -142,14 +143,14 @@ impl Slots {
         ensures rise { AllRise self.new.lists }
     {
         match &mut self.slots[name] {
-            Slot::Live(tree) => tree.remove(value),
+            Slot::Live(set) => set.remove(value),
             Slot::Free(_, _) => unreachable!(),
         }
     }
 }
 
 impl Slots {
-    /// Takes `value` out of every tree.
+    /// Takes `value` out of every set.
     pub fn remove_everywhere(&mut self, value: u64)
         ensures lists { DropsAt self.old.lists self.new.lists value }
         ensures free { self.new.free ≡ self.old.free }
@@ -166,8 +167,8 @@ impl Slot {
         requires { Rises (members_in self.old) }
         ensures { self.new ≡ slots_without value self.old }
     {
-        if let Slot::Live(tree) = self {
-            tree.remove(value);
+        if let Slot::Live(set) = self {
+            set.remove(value);
         }
     }
 

@@ -71,7 +71,8 @@ fn is_level(tree: &Tree) -> bool {
 fn is_level_set(pool: &SetPool, set: SetId) -> bool
     requires { IsTrue (is_live pool.now set) }
 {
-    is_level(pool.slots.tree(set.0 as usize))
+    let set = pool.slots.set(set.0 as usize);
+    is_level(&set.low) && is_level(&set.high)
 }
 
 // Puts in the numbers below 1009, which is prime, going on by `step`.

@@ -14,7 +14,7 @@ invariant_of-self c =
     let told = ap (λ names. names.lists) c.self.view_is in
     let within = live-within xs c.args.name (subst (λ lists. IsTrue (is_live_at lists c.args.name)) (sym told) c.requires.live) in
     let slot = sym (get_or_read xs c.args.name c.index_mut.result.now within c.index_mut.ensures.value (Live [])) ∙ c.in-Live.is in
-    kept xs c.args.name c.self.inside.top c.self.inside.free c.in-Live.tree c.insert.new.self within slot (λ rises. rw c.insert.ensures.list (rises-inserted c.args.value c.in-Live.tree rises)) c.self.invariant
+    kept xs c.args.name c.self.inside.top c.self.inside.free c.in-Live.set c.insert.new.self within slot (λ rises. rw c.insert.ensures.list (rises-inserted c.args.value c.in-Live.set rises)) c.self.invariant
 
 pub returns-clause-list : goal.returns-clause-list
 returns-clause-list c =
@@ -22,7 +22,7 @@ returns-clause-list c =
     let told = ap (λ names. names.lists) c.self.view_is in
     let within = live-within xs c.args.name (subst (λ lists. IsTrue (is_live_at lists c.args.name)) (sym told) c.requires.live) in
     let slot = sym (get_or_read xs c.args.name c.index_mut.result.now within c.index_mut.ensures.value (Live [])) ∙ c.in-Live.is in
-    put xs c.args.name c.in-Live.tree c.insert.new.self (inserted c.args.value) c.args.self.now.lists told within slot c.insert.ensures.list
+    put xs c.args.name c.in-Live.set c.insert.new.self (inserted c.args.value) c.args.self.now.lists told within slot c.insert.ensures.list
 
 pub returns-clause-rise : goal.returns-clause-rise
 returns-clause-rise c = all-rise _ _ _ (invariant_of-self c)
