@@ -1,7 +1,5 @@
 -- Lists of numbers that are in order of their names: who is in them, and what they are with one more or one less.
-use Rattle.std.proofs.Common.{◌≡◌, ℕ, zero, suc, ◌+◌, ◌-◌, ◌<◌, ◌≤◌, Bool, true, false, cond, List, [], ◌∷◌, ◌++◌, length, set, subst, refl, ap, sym, ◌∙◌, arith, inl, inr, eq-eqb, length-append}
-use Rattle.std.proofs.lemmas.List.{append_assoc, drop-append-le, drop-take, drop_at, length-take-le, take-append-drop, take-set-le, take-take, take_at, take_more_set}
-use Rattle.std.proofs.lemmas.List.Edits.{length-insert, length-remove, remove-append_left}
+use Rattle.std.proofs.Common.{◌≡◌, ℕ, zero, suc, ◌+◌, ◌<◌, Bool, true, false, cond, List, [], ◌∷◌, length, subst, refl, ap, sym, ◌∙◌, arith, inl, inr, eq-eqb}
 use Rattle.std.specs.Prelude.{◌⊎◌, ◌==◌, not, insert, remove, filter, IsTrue, take, drop}
 use Rattle.std.specs.List.{AllByRecursion}
 use Rattle.std.specs.Str.{bytes_eq}
@@ -184,42 +182,3 @@ module _ (names : ℕ → List ℕ) where
         | true ↦ (all-filter (λ k. IsTrue (is_before (names m) (names k))) (λ (m : ℕ). not (m == n)) ns rises.0, rises-without n ns rises.1)
         | false ↦ rises-without n ns rises.1
       ]
-
--- A number is written behind the first ones, and the last of those from a place on is brought to that place: it is
--- inserted there.
-pub rotated-inserts : (xs ys mid turned post rest : List ℕ) (count place number : ℕ) → place ≤ count → count < length xs → ys ≡ set xs count number →
-    mid ≡ take (count + 1 - place) (drop place ys) → turned ≡ drop (length mid - 1) mid ++ take (length mid - 1) mid →
-    take (count + 1) (take place ys ++ (turned ++ post) ++ rest) ≡ insert (take count xs) place number
-rotated-inserts xs ys mid turned post rest count place number low inside written is turns =
-    let items = take count xs in
-    let tail = drop place items in
-    let front = take place ys in
-    let few : length items ≡ count = length-take-le count xs (omega arith) in
-    let all : place + (count + 1 - place) ≡ count + 1 = omega arith in
-    let parts : mid ≡ tail ++ number ∷ [] =
-    is ∙ sym (drop-take place (count + 1 - place) ys)
-    ∙ ap (λ (k : ℕ). drop place (take k ys)) all
-    ∙ ap (λ (ns : List ℕ). drop place (take (count + 1) ns)) written
-    ∙ ap (λ (ns : List ℕ). drop place ns) (take_more_set xs count number inside)
-    ∙ drop-append-le place items (number ∷ []) (omega arith) in
-    let last : length mid - 1 ≡ length tail = (let more : length mid ≡ length tail + 1 = ap length parts ∙ length-append tail (number ∷ []) in omega arith) in
-    let first : front ≡ take place items = ap (λ (ns : List ℕ). take place ns) written ∙ take-set-le place xs count number low ∙ sym (take-take place count xs low) in
-    let whole : front ++ turned ≡ insert items place number =
-    (λ i. first i ++ turns i)
-    ∙ (λ i. take place items ++ (drop (last i) (parts i) ++ take (last i) (parts i)))
-    ∙ (λ i. take place items ++ (drop_at tail (number ∷ []) (length tail) refl i ++ take_at tail (number ∷ []) (length tail) refl i)) in
-    let long : length (front ++ turned) ≡ count + 1 = ap length whole ∙ length-insert items place number (omega arith) ∙ ap (λ (k : ℕ). k + 1) few in
-    ap (λ (ns : List ℕ). take (count + 1) ns) (append_assoc front (turned ++ post) rest ∙ ap (λ (ns : List ℕ). front ++ ns) (append_assoc turned post rest) ∙ sym (append_assoc front turned (post ++ rest)))
-    ∙ take_at (front ++ turned) (post ++ rest) (count + 1) long
-    ∙ whole
-
--- what is removed from the first numbers is removed from all
-pub removed-first : (xs : List ℕ) (count place : ℕ) → place < count → count ≤ length xs → take (count - 1) (remove xs place) ≡ remove (take count xs) place
-removed-first xs count place inside low =
-    let items = take count xs in
-    let rest = drop count xs in
-    let few : length items ≡ count = length-take-le count xs low in
-    let less : length (remove items place) + 1 ≡ length items = length-remove items place (omega arith) in
-    ap (λ (ns : List ℕ). take (count - 1) (remove ns place)) (sym (take-append-drop count xs))
-    ∙ ap (λ (ns : List ℕ). take (count - 1) ns) (remove-append_left items rest place (omega arith))
-    ∙ take_at (remove items place) rest (count - 1) (omega arith)

@@ -1,8 +1,7 @@
 -- Names among numbers that are in order of their names.
 use Rattle.std.proofs.Common.{◌≡◌, ℕ, zero, suc, ◌+◌, ◌<◌, ◌≤◌, Bool, true, false, cond, List, [], ◌∷◌, length, get_or, refl, ap, sym, ◌∙◌, arith}
 use Rattle.std.specs.Prelude.{Option, Some, None, IsTrue, slice_get}
-use Rattle.std.specs.List.{AllByRecursion, prefix_len}
-use Rattle.std.specs.List.Sorted.{IsPartitionPoint, IsPartitionedBy}
+use Rattle.std.specs.List.{AllByRecursion}
 use Rattle.std.specs.Cmp.Lexicographic.{slice_cmp, nat_list_cmp_total, nat_list_eq_equiv, texts_ties}
 use Rattle.std.specs.Ordering.{nat_cmp, is_eq, is_lt, ordering_reverse}
 use Rattle.std.specs.declared.cmp.Ordering.{Ordering}
@@ -40,24 +39,35 @@ all-index P [] i d h inside = absurd (omega arith)
 all-index P (x ∷ xs) zero d h inside = h.0
 all-index P (x ∷ xs) (suc i) d h inside = all-index P xs i d h.1 (omega arith)
 
--- the first `n` numbers pass the test, and no others do: then `n` is how many first ones pass it
-pub prefix-point : (p : ℕ → Bool) (xs : List ℕ) (i : ℕ) → i ≤ length xs → IsPartitionPoint (λ y. p y ≡ true) (λ y. p y ≡ false) xs i → i ≡ prefix_len p xs
-prefix-point p [] i inside h = omega arith
-prefix-point p (x ∷ xs) zero inside h = let first : p x ≡ false = h.1 0 x (omega arith) (omega arith) in rw first refl
-prefix-point p (x ∷ xs) (suc i) inside h =
-    let first : p x ≡ true = h.0 0 x (omega arith) (omega arith) in
-    let rest : i ≡ prefix_len p xs = prefix-point p xs i (omega arith) ((λ k d low high. h.0 (suc k) d (omega arith) (omega arith)), (λ k d low high. h.1 (suc k) d (omega arith) (omega arith))) in
-    rw first (omega arith)
-
 module _ (names : ℕ → List ℕ) (name : List ℕ) where
-  -- the names before a name come first
-  pub rank-partition : (ns : List ℕ) → NamesRise names ns → IsPartitionedBy (λ n. is_before (names n) name) ns
-  rank-partition [] h i j d le inside passes = absurd (omega arith)
-  rank-partition (n ∷ ns) h zero zero d le inside passes = passes
-  rank-partition (n ∷ ns) h zero (suc j) d le inside passes =
-      before-trans (names n) (names (get_or ns j d)) name (all-index (λ m. IsTrue (is_before (names n) (names m))) ns j d h.0 (omega arith)) passes
-  rank-partition (n ∷ ns) h (suc i) zero d le inside passes = absurd (omega arith)
-  rank-partition (n ∷ ns) h (suc i) (suc j) d le inside passes = rank-partition ns h.1 i j d (omega arith) (omega arith) passes
+  pub rank-length : (ns : List ℕ) → rank_in names name ns ≤ length ns
+  rank-length [] = omega arith
+  rank-length (n ∷ ns) =
+      let rest : rank_in names name ns ≤ length ns = rank-length ns in
+      elim (is_before (names n) name) as (λ b. cond b (1 + rank_in names name ns) 0 ≤ length (n ∷ ns)) [
+        | true ↦ omega arith
+        | false ↦ omega arith
+      ]
+
+  -- where a name comes before this one, more names do than are in front of it
+  pub rank-above : (ns : List ℕ) (i : ℕ) → NamesRise names ns → i < length ns → is_before (names (get_or ns i 0)) name ≡ true → i < rank_in names name ns
+  rank-above [] i h inside before = absurd (omega arith)
+  rank-above (n ∷ ns) zero h inside before = rw before (omega arith)
+  rank-above (n ∷ ns) (suc i) h inside before =
+      let first : is_before (names n) name ≡ true = before-trans (names n) (names (get_or ns i 0)) name (all-index (λ m. IsTrue (is_before (names n) (names m))) ns i 0 h.0 (omega arith)) before in
+      let rest : i < rank_in names name ns = rank-above ns i h.1 (omega arith) before in
+      rw first (omega arith)
+
+  -- where one doesn't, no more do than are in front of it
+  pub rank-below : (ns : List ℕ) (i : ℕ) → i < length ns → is_before (names (get_or ns i 0)) name ≡ false → rank_in names name ns ≤ i
+  rank-below [] i inside behind = absurd (omega arith)
+  rank-below (n ∷ ns) zero inside behind = rw behind (omega arith)
+  rank-below (n ∷ ns) (suc i) inside behind =
+      let rest : rank_in names name ns ≤ i = rank-below ns i (omega arith) behind in
+      elim (is_before (names n) name) as (λ b. cond b (1 + rank_in names name ns) 0 ≤ suc i) [
+        | true ↦ omega arith
+        | false ↦ omega arith
+      ]
 
   -- the number that was come upon, if it has the name
   abbrev pub if_named : Option ℕ → Option ℕ

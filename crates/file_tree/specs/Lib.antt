@@ -1,6 +1,4 @@
 pub mod Ready
-pub mod Listed
-pub mod Children
 pub mod Nodes
 pub mod Search
 pub mod Documents

@@ -233,7 +233,7 @@ pub(crate) fn insert_named(nodes: &mut Nodes, dir: Number, name: &[u8], number: 
         (rank_in (name_of nodes.old) name.now (kids_of nodes.old dir)) number else kids_of nodes.old
         q }
 {
-    let place = rank(nodes, children_at(nodes, dir), name);
+    let place = rank(nodes, &children_at(nodes, dir), name);
     nodes::insert_child(nodes, dir, place, number);
 }
 
@@ -253,5 +253,9 @@ pub(crate) fn place_at(nodes: &Nodes, dir: Number, entry: Number) -> usize
     ensures { NamesRise (name_of nodes.now) (kids_of nodes.now dir) →
         result ≡ rank_in (name_of nodes.now) (name_of nodes.now entry) (kids_of nodes.now dir) }
 {
-    rank(nodes, children_at(nodes, dir), nodes::name_at(nodes, entry))
+    rank(
+        nodes,
+        &children_at(nodes, dir),
+        nodes::name_at(nodes, entry),
+    )
 }

@@ -45,8 +45,8 @@ impl Tree {
         if names == 0 {
             return children.is_empty() && !self.is_mount(entry);
         }
-        for child in children {
-            if !self.is_shallow(*child, names - 1) {
+        for place in 0..children.len() {
+            if !self.is_shallow(children.at(place), names - 1) {
                 return false;
             }
         }

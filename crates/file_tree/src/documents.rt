@@ -14,6 +14,7 @@ use crate::nodes::{self, Content, Nodes, name_at};
 use crate::searching::named;
 use hac_model::{Memory, Name, Number, Seq};
 use std::alloc::Global;
+use tiered_list::Items;
 
 /// Puts nodes that are no entries under numbers that have none.
 pub(crate) fn prepare_nodes(
@@ -52,7 +53,7 @@ pub(crate) fn numbers_up(alloc: Global, first: u64, count: u64) -> Result<Vec<Nu
 /// from `first` on. The number behind these is answered.
 pub(crate) fn list_numbers(
     nodes: &Nodes,
-    known: &[Number],
+    known: &Items,
     first: u64,
     names: &[Name],
     numbers: &mut Vec<Number>,
@@ -82,7 +83,7 @@ pub(crate) fn list_numbers(
 /// no known document has. The number behind them is answered.
 pub(crate) fn put_unknown(
     nodes: &mut Nodes,
-    known: &[Number],
+    known: &Items,
     mount: Number,
     first: Number,
     names: Seq<Name>,
@@ -113,7 +114,7 @@ pub(crate) fn put_unknown(
 /// Makes the prepared node a document of a mount, unless a known document has the name.
 fn put_if_unknown(
     nodes: &mut Nodes,
-    known: &[Number],
+    known: &Items,
     mount: Number,
     next: Number,
     name: Name,
@@ -141,7 +142,7 @@ fn put_if_unknown(
 }
 
 /// Takes out those of the numbers whose names nothing has that is kept.
-pub(crate) fn take_dropped(nodes: &mut Nodes, numbers: &[Number], kept: &[Number])
+pub(crate) fn take_dropped(nodes: &mut Nodes, numbers: &Items, kept: &Items)
     requires rise { NamesRise (name_of nodes.old) numbers.now }
     requires kept_rise { NamesRise (name_of nodes.old) kept.now }
     ensures numbers { (q : ℕ) → has_node nodes.new q ≡
@@ -155,13 +156,13 @@ pub(crate) fn take_dropped(nodes: &mut Nodes, numbers: &[Number], kept: &[Number
     ensures kids { (q : ℕ) → kids_of nodes.new q ≡
         if is_dropped (name_of nodes.old) numbers.now kept.now q then [] else kids_of nodes.old q }
 {
-    for number in numbers {
-        take_if_dropped(nodes, *number, kept);
+    for place in 0..numbers.len() {
+        take_if_dropped(nodes, numbers.at(place), kept);
     }
 }
 
 /// Takes out a number, unless something has its name that is kept.
-fn take_if_dropped(nodes: &mut Nodes, number: Number, kept: &[Number])
+fn take_if_dropped(nodes: &mut Nodes, number: Number, kept: &Items)
     requires { NamesRise (name_of nodes.old) kept.now }
     ensures numbers { (q : ℕ) → has_node nodes.new q ≡
         if nat_eq number q && is_none (first_named (name_of nodes.old) kept.now

@@ -3,7 +3,6 @@
 #![tactic(auto)]
 
 mod changing;
-mod children;
 mod counting;
 mod depths;
 mod documents;

@@ -14,7 +14,6 @@ ghost use Rattle.file_tree.specs.Nodes.{body_of, entry_of, has_node, kids_of, na
 ghost use Rattle.file_tree.specs.Nodes.{spare_of};
 
 use crate::changing::{add_number, insert_named};
-use crate::children::Children;
 use crate::nodes::{self, Content, Nodes, Shown};
 use crate::ready::Ready;
 use crate::targets::{Target, read_word};
@@ -23,6 +22,7 @@ use hac_model::{Body, Counts, Entry, Memory, Number, State, Text, Version};
 use indexmap::IndexMap;
 use std::alloc::Global;
 use std::collections::BTreeSet;
+use tiered_list::TieredList;
 
 /// The tree as far as it is made.
 #[derive(Drop)]
@@ -57,7 +57,7 @@ impl Tree {
                 version,
                 next,
                 nodes: loading.nodes,
-                documents: Children::new(alloc),
+                documents: TieredList::new(alloc),
                 ready: Ready::Nothing,
                 counts,
                 to_index: loading.to_index,

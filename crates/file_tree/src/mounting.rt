@@ -8,13 +8,13 @@ ghost use Rattle.file_tree.specs.Changes.{GotReady, HasBecome, MayBecome};
 ghost use Rattle.file_tree.specs.Documents.{numbers_for};
 
 use crate::changing::{insert_named, parent_at, place_at};
-use crate::children::Children;
 use crate::documents::{list_numbers, numbers_up, prepare_nodes, put_unknown, take_dropped};
 use crate::nodes::{self, Content, children_at};
 use crate::ready::{Ready, numbers_in};
 use crate::tree::Tree;
 use hac_model::{Counts, DOCS_LIMIT, Memory, Name, Number, Seq};
 use std::mem;
+use tiered_list::{Items, TieredList};
 
 impl Tree {
     /// Prepares a mount with `count` documents in a directory. The state doesn't change, whatever
@@ -29,7 +29,7 @@ impl Tree {
         let first = self.next.get() + 1;
         prepare_nodes(self.alloc, &mut self.nodes, self.next.get(), first + count)?;
         nodes::reserve_child(&mut self.nodes, dir)?;
-        self.documents = Children::from_vec(numbers_up(self.alloc, first, count)?);
+        self.documents = TieredList::from_vec(self.alloc, numbers_up(self.alloc, first, count)?);
         self.ready = Ready::Mount { dir, count };
         Ok(())
     }
@@ -54,7 +54,13 @@ impl Tree {
         insert_named(&mut self.nodes, dir, name.as_bytes(), mount);
         nodes::put(&mut self.nodes, mount, dir, name, Content::Mount { space });
         let first = Number::new(mount.get() + 1);
-        self.next = put_unknown(&mut self.nodes, &[], mount, first, documents);
+        self.next = put_unknown(
+            &mut self.nodes,
+            &Items::from_slice(&[]),
+            mount,
+            first,
+            documents,
+        );
         nodes::put_children(&mut self.nodes, mount, &mut self.documents);
         self.counts = counts;
     }
@@ -74,7 +80,7 @@ impl Tree {
         let mut numbers = Vec::new(self.alloc);
         let end = list_numbers(
             &self.nodes,
-            known,
+            &known,
             first,
             documents.as_slice(),
             &mut numbers,
@@ -98,17 +104,11 @@ impl Tree {
             mount (fresh self.old.state mount documents)) self.new }
     {
         let ready = mem::replace(&mut self.ready, Ready::Nothing);
-        let mut numbers = Children::from_vec(numbers_in(self.alloc, ready));
-        let mut known = Children::new(self.alloc);
+        let mut numbers = TieredList::from_vec(self.alloc, numbers_in(self.alloc, ready));
+        let mut known = TieredList::new(self.alloc);
         nodes::put_children(&mut self.nodes, mount, &mut known);
-        self.next = put_unknown(
-            &mut self.nodes,
-            known.as_slice(),
-            mount,
-            self.next,
-            documents,
-        );
-        take_dropped(&mut self.nodes, known.as_slice(), numbers.as_slice());
+        self.next = put_unknown(&mut self.nodes, &known.items(), mount, self.next, documents);
+        take_dropped(&mut self.nodes, &known.items(), &numbers.items());
         nodes::put_children(&mut self.nodes, mount, &mut numbers);
         self.counts = counts;
     }
@@ -123,9 +123,9 @@ impl Tree {
         let parent = parent_at(&self.nodes, mount);
         let place = place_at(&self.nodes, parent, mount);
         nodes::drop_child(&mut self.nodes, parent, place);
-        let mut documents = Children::new(self.alloc);
+        let mut documents = TieredList::new(self.alloc);
         nodes::put_children(&mut self.nodes, mount, &mut documents);
-        take_dropped(&mut self.nodes, documents.as_slice(), &[]);
+        take_dropped(&mut self.nodes, &documents.items(), &Items::from_slice(&[]));
         nodes::take_out(&mut self.nodes, mount);
         self.counts = counts;
     }

@@ -11,12 +11,12 @@ ghost use Rattle.hac_model.specs.Tree.{is_directory, is_dirty, is_linkable, quer
 ghost use Rattle.hac_model.specs.Tree.{space_in, target_in};
 ghost use Rattle.hac_model.specs.Tree.Valid.{IsSound};
 
-use crate::children::Children;
 use crate::targets::Target;
 use hac_model::{Memory, Name, Number, PathWord, Query, Text};
 use indexmap::IndexMap;
 use std::alloc::Global;
 use std::mem;
+use tiered_list::{Items, TieredList};
 
 /// The nodes by number.
 pub(crate) type Nodes = IndexMap<u64, Node>;
@@ -31,7 +31,7 @@ pub(crate) struct Node {
     pub(crate) name: Name,
     pub(crate) content: Content,
     // What is in it.
-    pub(crate) children: Children,
+    pub(crate) children: TieredList,
 }
 
 /// What an entry is, with each text kept once.
@@ -262,12 +262,12 @@ pub(crate) fn name_at(nodes: &Nodes, number: Number) -> &[u8]
 }
 
 /// The entries of a directory.
-pub(crate) fn children_at(nodes: &Nodes, dir: Number) -> &[Number]
-    ensures { result.now ≡ kids_of nodes.now dir }
+pub(crate) fn children_at(nodes: &Nodes, dir: Number) -> Items<'_>
+    ensures { result ≡ kids_of nodes.now dir }
 {
     match node_at(nodes, dir) {
-        Some(node) => node.children.as_slice(),
-        None => &[],
+        Some(node) => node.children.items(),
+        None => Items::from_slice(&[]),
     }
 }
 
@@ -287,7 +287,7 @@ pub(crate) fn prepare(alloc: Global, nodes: &mut Nodes, number: Number) -> Resul
         parent: Number::ROOT,
         name: Name::new(Vec::new(alloc)),
         content: Content::Dir,
-        children: Children::new(alloc),
+        children: TieredList::new(alloc),
     };
     nodes.insert(number.get(), node)?;
     Ok(())
@@ -348,7 +348,7 @@ pub(crate) fn take_out(nodes: &mut Nodes, number: Number)
 }
 
 /// Gives a directory the list of its entries, in place of its old one, which is given back.
-pub(crate) fn put_children(nodes: &mut Nodes, dir: Number, children: &mut Children)
+pub(crate) fn put_children(nodes: &mut Nodes, dir: Number, children: &mut TieredList)
     requires { IsTrue (has_node nodes.old dir) }
     ensures numbers { (q : ℕ) → has_node nodes.new q ≡ has_node nodes.old q }
     ensures entries { (q : ℕ) → entry_of nodes.new q ≡ entry_of nodes.old q }
@@ -400,7 +400,7 @@ pub(crate) fn drop_child(nodes: &mut Nodes, dir: Number, place: usize)
     ensures names { (q : ℕ) → name_of nodes.new q ≡ name_of nodes.old q }
     ensures kids { (q : ℕ) → kids_of nodes.new q ≡ if nat_eq dir q then remove
         (kids_of nodes.old dir) place else kids_of nodes.old q }
-    ensures spare { (q : ℕ) → spare_of nodes.new q ≡ spare_of nodes.old q }
+    ensures spare { (q : ℕ) → 0 < spare_of nodes.old q → 0 < spare_of nodes.new q }
 {
     if let Some(node) = nodes.get_mut(&dir.get()) {
         node.children.remove(place);

@@ -8,6 +8,7 @@ ghost use Rattle.file_tree.specs.Shape.{NamesRise};
 use crate::nodes::{Nodes, name_at};
 use hac_model::Number;
 use std::cmp::Ordering;
+use tiered_list::Items;
 
 fn is_before(name: &[u8], other: &[u8]) -> bool
     ensures { result ≡ is_before name.now other.now }
@@ -16,20 +17,34 @@ fn is_before(name: &[u8], other: &[u8]) -> bool
 }
 
 /// How many of the numbers have names before this one.
-pub(crate) fn rank(nodes: &Nodes, numbers: &[Number], name: &[u8]) -> usize
+pub(crate) fn rank(nodes: &Nodes, numbers: &Items, name: &[u8]) -> usize
     ensures within { result ≤ length numbers.now }
     ensures rank { NamesRise (name_of nodes.now) numbers.now →
         result ≡ rank_in (name_of nodes.now) name.now numbers.now }
 {
-    numbers.partition_point(|number| is_before(name_at(nodes, *number), name))
+    let mut low = 0;
+    let mut high = numbers.len();
+    'halves: while low < high {
+        let middle = low + (high - low) / 2;
+        if is_before(name_at(nodes, numbers.at(middle)), name) {
+            low = middle + 1;
+        } else {
+            high = middle;
+        }
+    }
+    low
 }
 
 /// The one of the numbers that has the name.
-pub(crate) fn named(nodes: &Nodes, numbers: &[Number], name: &[u8]) -> Option<Number>
+pub(crate) fn named(nodes: &Nodes, numbers: &Items, name: &[u8]) -> Option<Number>
     ensures { NamesRise (name_of nodes.now) numbers.now →
         result ≡ first_named (name_of nodes.now) numbers.now name.now }
 {
-    let number = *numbers.get(rank(nodes, numbers, name))?;
+    let place = rank(nodes, numbers, name);
+    if place == numbers.len() {
+        return None;
+    }
+    let number = numbers.at(place);
     if name_at(nodes, number) == name {
         Some(number)
     } else {

@@ -14,7 +14,6 @@ ghost use Rattle.file_tree.specs.Answers.{entries_behind, entry_kind, entry_kind
 ghost use Rattle.file_tree.specs.Answers.{numbers_of};
 ghost use Rattle.file_tree.specs.Nodes.{body_of};
 
-use crate::children::Children;
 use crate::nodes::{self, Content, Nodes, children_at};
 use crate::ready::Ready;
 use crate::searching::named;
@@ -25,6 +24,7 @@ use std::alloc::Global;
 use std::collections::BTreeSet;
 use std::marker::Model;
 use std::ops::Bound;
+use tiered_list::{Items, TieredList};
 
 /// The tree, seen as its state and as what it is ready for.
 #[derive(Drop)]
@@ -37,7 +37,7 @@ pub struct Tree {
     // The root, the entries, and what was prepared.
     pub(crate) nodes: Nodes,
     // The list of the documents of a mount that was prepared.
-    pub(crate) documents: Children,
+    pub(crate) documents: TieredList,
     pub(crate) ready: Ready,
     // How much the state holds.
     pub(crate) counts: Counts,
@@ -89,7 +89,7 @@ impl Tree {
             version,
             next: Number::new(1),
             nodes,
-            documents: Children::new(alloc),
+            documents: TieredList::new(alloc),
             ready: Ready::Nothing,
             counts: of_root(),
             to_index: BTreeSet::new(alloc),
@@ -139,7 +139,7 @@ impl Tree {
     pub fn child(&self, dir: Number, name: &Name) -> Option<Number>
         ensures { result ≡ child self.now.state.entries dir name.now }
     {
-        named(&self.nodes, children_at(&self.nodes, dir), name.as_bytes())
+        named(&self.nodes, &children_at(&self.nodes, dir), name.as_bytes())
     }
 
     /// The directory of an entry. The root is in itself.
@@ -334,9 +334,9 @@ impl Tree {
     }
 
     /// The entries of a directory, in byte order of names.
-    pub fn children(&self, dir: Number) -> &[Number]
-        ensures numbers { result.now ≡ map (λ entry. entry.number) (children self.now.state dir) }
-        ensures bare { is_bare self.now.state.entries dir ≡ (length result.now == 0) }
+    pub fn children(&self, dir: Number) -> Items<'_>
+        ensures numbers { result ≡ map (λ entry. entry.number) (children self.now.state dir) }
+        ensures bare { is_bare self.now.state.entries dir ≡ (length result == 0) }
     {
         children_at(&self.nodes, dir)
     }

@@ -9,10 +9,10 @@ pub returns-then-not-is_shallow : goal.returns-then-not-is_shallow
 returns-then-not-is_shallow t c =
     let s = c.args.self.now.state in
     let names = c.args.names in
-    let numbers = c.children-children.result.now in
+    let numbers = c.children-children.result in
     let some : 0 < names = omega (arith, c.if-names-eq0.false) in
-    let fails : is_shallow (names - 1) s (get_or numbers c.loop-child.child-index c.child-item.result) ≡ false = ap (λ (k : ℕ). is_shallow (names - 1) s k) (sym c.child-item.is) ∙ sym c.is_shallow.ensures ∙ c.if-not-is_shallow.true in
+    let fails : is_shallow (names - 1) s (get_or numbers c.loop-place.place 0) ≡ false = ap (λ (k : ℕ). is_shallow (names - 1) s k) (sym c.at.ensures) ∙ sym c.is_shallow.ensures ∙ c.if-not-is_shallow.true in
     sym (
     shallow-step names s c.args.entry some
     ∙ ap (λ (ns : List ℕ). list_all (is_shallow (names - 1) s) ns) (sym c.children-children.ensures.numbers)
-    ∙ list_all_at (is_shallow (names - 1) s) numbers c.loop-child.child-index c.child-item.result c.loop-child-test.true fails)
+    ∙ list_all_at (is_shallow (names - 1) s) numbers c.loop-place.place 0 (omega (arith, c.len-place-end.ensures)) fails)

@@ -7,5 +7,5 @@ abbrev pub decreases-is_shallow : goal.decreases-is_shallow
 decreases-is_shallow l = l.names
 
 -- the children so far pass
-abbrev pub invariant-loop-child : goal.invariant-loop-child
-invariant-loop-child l = list_all (is_shallow (l.names - 1) l.self.state) (take l.child-index l.children) ≡ true
+abbrev pub invariant-loop-place : goal.invariant-loop-place
+invariant-loop-place l = list_all (is_shallow (l.names - 1) l.self.state) (take l.place l.children) ≡ true

@@ -19,8 +19,8 @@ pub synced-requires-clause-there : goal.synced-requires-clause-there
 synced-requires-clause-there c =
     let s = c.args.self.now.state in
     let h = c.small_counts.ensures.layout in
-    let old : length c.children.result.now ≡ were s h c.args.mount c.requires.mount c.args.documents.now =
-    ap length c.children.ensures.numbers ∙ length-map (children s c.args.mount) (λ (e : Entry). e.number) ∙ order-length (filter (λ (e : Entry). e.parent == c.args.mount) s.entries) in
+    let old : c.len-old.result ≡ were s h c.args.mount c.requires.mount c.args.documents.now =
+    c.len-old.ensures ∙ ap length c.children.ensures.numbers ∙ length-map (children s c.args.mount) (λ (e : Entry). e.number) ∙ order-length (filter (λ (e : Entry). e.parent == c.args.mount) s.entries) in
     let items : c.small_counts.result.items ≡ measured (one_if is_linkable) s.entries = ap (λ (x : Counts). x.items) c.small_counts.ensures.counts in
     omega (arith, were-items s h c.args.mount c.requires.mount c.args.documents.now)
 
@@ -31,8 +31,8 @@ returns c =
     let names = c.args.documents.now in
     let parts = and_parts (list_all is_name names) (do_names_rise names && nat_le (length names) DOCS_LIMIT) c.requires.documents in
     let rise = (and_parts (do_names_rise names) (nat_le (length names) DOCS_LIMIT) parts.1).0 in
-    let old : length c.children.result.now ≡ were s h c.args.mount c.requires.mount names =
-    ap length c.children.ensures.numbers ∙ length-map (children s c.args.mount) (λ (e : Entry). e.number) ∙ order-length (filter (λ (e : Entry). e.parent == c.args.mount) s.entries) in
+    let old : c.len-old.result ≡ were s h c.args.mount c.requires.mount names =
+    c.len-old.ensures ∙ ap length c.children.ensures.numbers ∙ length-map (children s c.args.mount) (λ (e : Entry). e.number) ∙ order-length (filter (λ (e : Entry). e.parent == c.args.mount) s.entries) in
     let come : c.count_fresh-fresh.result ≡ length (fresh s c.args.mount names) = c.count_fresh-fresh.ensures.count ∙ ap (λ (xs : List (List ℕ)). length (fresh s c.args.mount xs)) c.as_slice-names.ensures in
     c.synced.ensures
     ∙ (λ i. record (c.small_counts.ensures.counts i) {

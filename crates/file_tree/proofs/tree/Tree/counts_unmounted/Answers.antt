@@ -16,13 +16,13 @@ pub minus-requires : goal.minus-requires
 minus-requires c =
     let s = c.args.self.now.state in
     let h = c.small_counts.ensures.layout in
-    let long : length c.children.result.now ≡ count s h c.args.mount c.requires =
-    ap length c.children.ensures.numbers ∙ length-map (children s c.args.mount) (λ (e : Entry). e.number) ∙ order-length (filter (λ (e : Entry). e.parent == c.args.mount) s.entries) in
+    let long : c.len-items.result ≡ count s h c.args.mount c.requires =
+    c.len-items.ensures ∙ ap length c.children.ensures.numbers ∙ length-map (children s c.args.mount) (λ (e : Entry). e.number) ∙ order-length (filter (λ (e : Entry). e.parent == c.args.mount) s.entries) in
     let rest = counts (without_such (is_of_mount c.args.mount) s) in (
       rest,
       c.small_counts.ensures.counts ∙ sym (counts-unmounted s h c.args.mount c.requires)
           ∙ ap (λ (part : Counts). plus rest part) (sym (
-          ap (λ (part : Counts). record part { items = length c.children.result.now }) (c.of_mount.ensures.share [] [])
+          ap (λ (part : Counts). record part { items = c.len-items.result }) (c.of_mount.ensures.share [] [])
           ∙ ap (λ (k : ℕ). record (share_of (Mount [] [])) { items = k }) long)),
     )
 
@@ -30,11 +30,11 @@ pub returns : goal.returns
 returns c =
     let s = c.args.self.now.state in
     let h = c.small_counts.ensures.layout in
-    let long : length c.children.result.now ≡ count s h c.args.mount c.requires =
-    ap length c.children.ensures.numbers ∙ length-map (children s c.args.mount) (λ (e : Entry). e.number) ∙ order-length (filter (λ (e : Entry). e.parent == c.args.mount) s.entries) in
+    let long : c.len-items.result ≡ count s h c.args.mount c.requires =
+    c.len-items.ensures ∙ ap length c.children.ensures.numbers ∙ length-map (children s c.args.mount) (λ (e : Entry). e.number) ∙ order-length (filter (λ (e : Entry). e.parent == c.args.mount) s.entries) in
     let rest = counts (without_such (is_of_mount c.args.mount) s) in
-    same-part c.minus.result rest (record c.of_mount.result { items = length c.children.result.now }) (
+    same-part c.minus.result rest (record c.of_mount.result { items = c.len-items.result }) (
     c.minus.ensures ∙ c.small_counts.ensures.counts ∙ sym (counts-unmounted s h c.args.mount c.requires)
     ∙ ap (λ (part : Counts). plus rest part) (sym (
-    ap (λ (part : Counts). record part { items = length c.children.result.now }) (c.of_mount.ensures.share [] [])
+    ap (λ (part : Counts). record part { items = c.len-items.result }) (c.of_mount.ensures.share [] [])
     ∙ ap (λ (k : ℕ). record (share_of (Mount [] [])) { items = k }) long)))

@@ -1,7 +1,8 @@
-use Rattle.std.proofs.Common.{◌≡◌, ◌≤◌, ◌+◌, ℕ, List, [], Option, Some, false, length, cond, refl, ap, subst, ◌∙◌, arith}
+use Rattle.std.proofs.Common.{◌≡◌, ◌≤◌, ◌+◌, ℕ, List, [], Option, Some, false, length, cond, refl, ap, subst, sym, ◌∙◌, arith}
 use Rattle.std.specs.Prelude.{◌||◌, nat_eq, nat_lt, insert}
 use Rattle.std.proofs.lemmas.Bool.Decides.{nat_tests}
 use Rattle.std.proofs.Math.Bool.{or-false}
+use Rattle.hac_model.specs.Tree.Depends.{Among}
 use Rattle.hac_model.specs.Tree.Mounting.{documents_from, mounted}
 use Rattle.hac_model.specs.declared.states.Body.TheVariants as body
 use Rattle.hac_model.specs.declared.states.Entry.{Entry}
@@ -14,7 +15,7 @@ use Rattle.file_tree.specs.Nodes.{entry_of, kids_of, name_of}
 use Rattle.file_tree.specs.Ready.{is_awaited}
 use Rattle.file_tree.specs.Search.{first_named, rank_in}
 use Rattle.file_tree.specs.Seen.{Seen}
-use Rattle.file_tree.specs.Shape.{HasDocuments, HasNew, HasNodes, HasSpare}
+use Rattle.file_tree.specs.Shape.{HasDocuments, HasNew, HasNodes, HasSpare, NamesRise}
 use Rattle.file_tree.specs.declared.ready.Ready.{Ready}
 use Rattle.file_tree.specs.declared.ready.Ready.TheVariants.{Mount, Nothing}
 use Rattle.file_tree.specs.declared.tree.Tree.TheInside.{Inside}
@@ -32,12 +33,19 @@ spare-mount t dir count ready spare = subst (λ (r : Ready). HasSpare r t.nodes 
 list-mount : (t : Inside) (dir count : ℕ) → t.ready ≡ Mount dir count → HasDocuments t.ready t.next t.documents.items → t.documents.items ≡ numbers_up (t.next + 1) count
 list-mount t dir count ready documents = subst (λ (r : Ready). HasDocuments r t.next t.documents.items) ready documents
 
+pub put_unknown-self-inside-requires-clause-rise : goal.put_unknown-self-inside-requires-clause-rise
+put_unknown-self-inside-requires-clause-rise c = subst (λ (ns : List ℕ). NamesRise (name_of c.put.new.nodes) ns) (sym c.from_slice.ensures) tt
+
+pub put_unknown-self-inside-requires-clause-low : goal.put_unknown-self-inside-requires-clause-low
+put_unknown-self-inside-requires-clause-low c = λ q among. absurd (subst (λ (ns : List ℕ). Among ns q) c.from_slice.ensures among)
+
 pub put_unknown-self-inside-requires-clause-there : goal.put_unknown-self-inside-requires-clause-there
 put_unknown-self-inside-requires-clause-there c = λ q high low.
     let ready : c.self.inside.ready ≡ Mount c.args.dir (length c.args.documents) = ap (λ (x : Seen). x.ready) c.self.view_is ∙ c.requires.ready in
     let has = spare-mount c.self.inside c.args.dir (length c.args.documents) ready c.self.invariant.shaped.spare in
     let first : c.new-first.result ≡ c.self.inside.next + 1 = c.new-first.ensures ∙ ap (λ (k : ℕ). k + 1) c.get.ensures in
-    let all : length (unknown (first_named (name_of c.put.new.nodes) []) c.args.documents) ≡ length c.args.documents = ap length (unknown-none c.args.documents) in
+    let all : length (unknown (first_named (name_of c.put.new.nodes) c.from_slice.result) c.args.documents) ≡ length c.args.documents =
+    ap (λ (ns : List ℕ). length (unknown (first_named (name_of c.put.new.nodes) ns) c.args.documents)) c.from_slice.ensures ∙ ap length (unknown-none c.args.documents) in
     c.put.ensures.numbers q ∙ c.insert_named.ensures.numbers q ∙ has.1 q (omega arith) (omega arith)
 
 pub put_unknown-self-inside-requires-clause-few : goal.put_unknown-self-inside-requires-clause-few
@@ -48,7 +56,8 @@ put_unknown-self-inside-requires-clause-few c =
     let same : c.self.inside.next ≡ c.args.self.now.state.next = ap (λ (x : Seen). x.state.next) c.self.view_is in
     let small : c.args.self.now.state.next + 1 + length c.args.documents ≤ NUMBERS_LIMIT = grind (arith, nat_tests, low) in
     let first : c.new-first.result ≡ c.self.inside.next + 1 = c.new-first.ensures ∙ ap (λ (k : ℕ). k + 1) c.get.ensures in
-    let all : length (unknown (first_named (name_of c.put.new.nodes) []) c.args.documents) ≡ length c.args.documents = ap length (unknown-none c.args.documents) in
+    let all : length (unknown (first_named (name_of c.put.new.nodes) c.from_slice.result) c.args.documents) ≡ length c.args.documents =
+    ap (λ (ns : List ℕ). length (unknown (first_named (name_of c.put.new.nodes) ns) c.args.documents)) c.from_slice.ensures ∙ ap length (unknown-none c.args.documents) in
     omega arith
 
 module _ (c : goal.After-counts-1) where
@@ -67,8 +76,8 @@ module _ (c : goal.After-counts-1) where
   first : c.new-first.result ≡ c.self.inside.next + 1
   first = c.new-first.ensures ∙ ap (λ (k : ℕ). k + 1) c.get.ensures
 
-  all : unknown (first_named (name_of c.put.new.nodes) []) c.args.documents ≡ c.args.documents
-  all = unknown-none c.args.documents
+  all : unknown (first_named (name_of c.put.new.nodes) c.from_slice.result) c.args.documents ≡ c.args.documents
+  all = ap (λ (ns : List ℕ). unknown (first_named (name_of c.put.new.nodes) ns) c.args.documents) c.from_slice.ensures ∙ unknown-none c.args.documents
 
   came : IsMounted c.self.inside c.args.self.now c.self.view_is c.self.invariant.shaped u c.args.dir c.args.name c.args.space c.args.documents
   came = record {

@@ -3,7 +3,7 @@ use Rattle.std.proofs.Math.Bool.{or-false}
 use Rattle.hac_model.specs.declared.limits.TheConstants.{NUMBERS_LIMIT}
 use Rattle.file_tree.specs.Answers.{is_dirty_at}
 use Rattle.file_tree.specs.Documents.{numbers_up}
-use Rattle.file_tree.specs.Listed.{Listed}
+use Rattle.tiered_list.specs.Listed.{Listed}
 use Rattle.file_tree.specs.Shape.{state_of}
 use Rattle.file_tree.proofs.TreeLemmas.{directory-node, next-small, place-reserved, ready-nothing, set-clean, spare-nothing, tree-readied}
 use Rattle.file_tree.proofs.tree.Tree.prepare_mount.Goals as goal

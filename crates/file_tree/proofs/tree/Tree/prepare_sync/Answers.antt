@@ -48,8 +48,8 @@ module _ (c : goal.Joined-self) where
   is : is_mount_at (state_of c.self.inside).entries c.args.mount ≡ true
   is = mount-inside c.self.inside (record { state = c.args.self.now.state; ready = Nothing }) view c.args.mount c.requires.mount
 
-  same : first_named (name_of c.self.inside.nodes) c.children_at-known.result.now ≡ find c.self.inside c.self.invariant.shaped c.args.mount is
-  same = finds c.self.inside (record { state = c.args.self.now.state; ready = Nothing }) view c.args.mount c.self.invariant.shaped is (name_of c.self.inside.nodes) c.children_at-known.result.now (λ q. refl) c.children_at-known.ensures
+  same : first_named (name_of c.self.inside.nodes) c.children_at-known.result ≡ find c.self.inside c.self.invariant.shaped c.args.mount is
+  same = finds c.self.inside (record { state = c.args.self.now.state; ready = Nothing }) view c.args.mount c.self.invariant.shaped is (name_of c.self.inside.nodes) c.children_at-known.result (λ q. refl) c.children_at-known.ensures
 
   numbers : c.new-numbers-2.result ≡ numbers_from (find c.self.inside c.self.invariant.shaped c.args.mount is) c.self.inside.next c.args.documents.now
   numbers =

@@ -11,7 +11,7 @@ use Rattle.hac_model.specs.declared.limits.TheConstants.{NUMBERS_LIMIT}
 use Rattle.hac_model.proofs.LimitLemmas.{limits-within, most-numbers}
 use Rattle.file_tree.specs.Answers.{is_dirty_at}
 use Rattle.file_tree.specs.Documents.{is_dropped, numbers_from, unknown, with_entries, with_names}
-use Rattle.file_tree.specs.Listed.{Listed}
+use Rattle.tiered_list.specs.Listed.{Listed}
 use Rattle.file_tree.specs.Nodes.{entry_of, has_node, kids_of, name_of}
 use Rattle.file_tree.specs.Ready.{is_awaited, numbers_in}
 use Rattle.file_tree.specs.Search.{first_named}
@@ -36,21 +36,21 @@ put_children-requires c =
 
 pub put_unknown-self-inside-requires-clause-rise : goal.put_unknown-self-inside-requires-clause-rise
 put_unknown-self-inside-requires-clause-rise c =
-    let known : c.as_slice.result.now ≡ kids_of c.self.inside.nodes c.args.mount = c.as_slice.ensures ∙ c.put_children.ensures.given in
-    rises-same (name_of c.self.inside.nodes) (name_of c.put_children.new.nodes) c.as_slice.result.now (λ n among. c.put_children.ensures.names n)
+    let known : c.items.result ≡ kids_of c.self.inside.nodes c.args.mount = c.items.ensures ∙ c.put_children.ensures.given in
+    rises-same (name_of c.self.inside.nodes) (name_of c.put_children.new.nodes) c.items.result (λ n among. c.put_children.ensures.names n)
     (subst (λ (ns : List ℕ). NamesRise (name_of c.self.inside.nodes) ns) (sym known) (c.self.invariant.shaped.lists.rises c.args.mount))
 
 pub put_unknown-self-inside-requires-clause-low : goal.put_unknown-self-inside-requires-clause-low
 put_unknown-self-inside-requires-clause-low c = λ q among.
     let is = mount-inside c.self.inside c.args.self.now c.self.view_is c.args.mount c.requires.mount in
-    member-low c.self.inside c.self.invariant.shaped c.args.mount is q (subst (λ (ns : List ℕ). Among ns q) (c.as_slice.ensures ∙ c.put_children.ensures.given) among)
+    member-low c.self.inside c.self.invariant.shaped c.args.mount is q (subst (λ (ns : List ℕ). Among ns q) (c.items.ensures ∙ c.put_children.ensures.given) among)
 
 pub put_unknown-self-inside-requires-clause-there : goal.put_unknown-self-inside-requires-clause-there
 put_unknown-self-inside-requires-clause-there c = λ q high low.
     let t = c.self.inside in
     let h = c.self.invariant.shaped in
     let is = mount-inside t c.args.self.now c.self.view_is c.args.mount c.requires.mount in
-    let same = finds t c.args.self.now c.self.view_is c.args.mount h is (name_of c.put_children.new.nodes) c.as_slice.result.now c.put_children.ensures.names (c.as_slice.ensures ∙ c.put_children.ensures.given) in
+    let same = finds t c.args.self.now c.self.view_is c.args.mount h is (name_of c.put_children.new.nodes) c.items.result c.put_children.ensures.names (c.items.ensures ∙ c.put_children.ensures.given) in
     let inside : q < t.next + length (unknown (find t h c.args.mount is) c.args.documents) = subst (λ (f : List ℕ → Option ℕ). q < t.next + length (unknown f c.args.documents)) same low in
     c.put_children.ensures.numbers q
     ∙ spare-inside t c.args.self.now c.self.view_is c.args.mount h is c.args.documents c.requires.ready q (number-new (find t h c.args.mount is) c.args.documents t.next q high inside)
@@ -61,7 +61,7 @@ put_unknown-self-inside-requires-clause-few c =
     let s = c.args.self.now.state in
     let h = c.self.invariant.shaped in
     let is = mount-inside t c.args.self.now c.self.view_is c.args.mount c.requires.mount in
-    let same = finds t c.args.self.now c.self.view_is c.args.mount h is (name_of c.put_children.new.nodes) c.as_slice.result.now c.put_children.ensures.names (c.as_slice.ensures ∙ c.put_children.ensures.given) in
+    let same = finds t c.args.self.now c.self.view_is c.args.mount h is (name_of c.put_children.new.nodes) c.items.result c.put_children.ensures.names (c.items.ensures ∙ c.put_children.ensures.given) in
     let after = with_documents (without_such (is_gone c.args.mount c.args.documents) s) c.args.mount (fresh s c.args.mount c.args.documents) in
     let within = limits-within after c.requires.may.layout.limits in
     let low : nat_lt NUMBERS_LIMIT (s.next + length (fresh s c.args.mount c.args.documents)) ≡ false = most-numbers after within in
@@ -76,9 +76,9 @@ take_dropped-requires-clause-rise c =
     let h = c.self.invariant.shaped in
     let g = name_of c.put_unknown-self-inside.new.nodes in
     let is = mount-inside t c.args.self.now c.self.view_is c.args.mount c.requires.mount in
-    let same = finds t c.args.self.now c.self.view_is c.args.mount h is (name_of c.put_children.new.nodes) c.as_slice.result.now c.put_children.ensures.names (c.as_slice.ensures ∙ c.put_children.ensures.given) in
-    let named = names-put t h c.args.mount is c.args.documents (first_named (name_of c.put_children.new.nodes) c.as_slice.result.now) same g (name_of c.put_children.new.nodes) c.put_children.ensures.names c.put_unknown-self-inside.ensures.names in
-    let known : c.as_slice-2.result.now ≡ kids_of t.nodes c.args.mount = c.as_slice-2.ensures ∙ c.put_children.ensures.given in
+    let same = finds t c.args.self.now c.self.view_is c.args.mount h is (name_of c.put_children.new.nodes) c.items.result c.put_children.ensures.names (c.items.ensures ∙ c.put_children.ensures.given) in
+    let named = names-put t h c.args.mount is c.args.documents (first_named (name_of c.put_children.new.nodes) c.items.result) same g (name_of c.put_children.new.nodes) c.put_children.ensures.names c.put_unknown-self-inside.ensures.names in
+    let known : c.items-2.result ≡ kids_of t.nodes c.args.mount = c.items-2.ensures ∙ c.put_children.ensures.given in
     subst (λ (ns : List ℕ). NamesRise g ns) (sym known)
     (rises-same (name_of t.nodes) g (kids_of t.nodes c.args.mount) (λ n among. low-name t h c.args.mount is c.args.documents g named n (member-low t h c.args.mount is n among)) (h.lists.rises c.args.mount))
 
@@ -88,10 +88,10 @@ take_dropped-requires-clause-kept_rise c =
     let h = c.self.invariant.shaped in
     let g = name_of c.put_unknown-self-inside.new.nodes in
     let is = mount-inside t c.args.self.now c.self.view_is c.args.mount c.requires.mount in
-    let same = finds t c.args.self.now c.self.view_is c.args.mount h is (name_of c.put_children.new.nodes) c.as_slice.result.now c.put_children.ensures.names (c.as_slice.ensures ∙ c.put_children.ensures.given) in
-    let named = names-put t h c.args.mount is c.args.documents (first_named (name_of c.put_children.new.nodes) c.as_slice.result.now) same g (name_of c.put_children.new.nodes) c.put_children.ensures.names c.put_unknown-self-inside.ensures.names in
-    let numbers : c.as_slice-3.result.now ≡ numbers_from (find t h c.args.mount is) t.next c.args.documents =
-    c.as_slice-3.ensures ∙ ap (λ (x : Listed). x.items) c.from_vec-numbers.ensures ∙ c.numbers_in.ensures ∙ ap numbers_in (c.replace-ready.ensures.value ∙ ready-inside t c.args.self.now c.self.view_is c.args.mount h is c.args.documents c.requires.ready) in
+    let same = finds t c.args.self.now c.self.view_is c.args.mount h is (name_of c.put_children.new.nodes) c.items.result c.put_children.ensures.names (c.items.ensures ∙ c.put_children.ensures.given) in
+    let named = names-put t h c.args.mount is c.args.documents (first_named (name_of c.put_children.new.nodes) c.items.result) same g (name_of c.put_children.new.nodes) c.put_children.ensures.names c.put_unknown-self-inside.ensures.names in
+    let numbers : c.items-3.result ≡ numbers_from (find t h c.args.mount is) t.next c.args.documents =
+    c.items-3.ensures ∙ ap (λ (x : Listed). x.items) c.from_vec-numbers.ensures ∙ c.numbers_in.ensures ∙ ap numbers_in (c.replace-ready.ensures.value ∙ ready-inside t c.args.self.now c.self.view_is c.args.mount h is c.args.documents c.requires.ready) in
     subst (λ (ns : List ℕ). NamesRise g ns) (sym numbers) (rise-redone t h c.args.mount is c.args.documents g named c.requires.rise)
 
 pub put_children-requires-2 : goal.put_children-requires-2
@@ -101,15 +101,15 @@ put_children-requires-2 c =
     let g = name_of c.put_unknown-self-inside.new.nodes in
     let is = mount-inside t c.args.self.now c.self.view_is c.args.mount c.requires.mount in
     let entry = mount-entry t h c.args.mount is in
-    let out : is_dropped g c.as_slice-2.result.now c.as_slice-3.result.now c.args.mount ≡ false =
-    ap (λ (ns : List ℕ). is_dropped g ns c.as_slice-3.result.now c.args.mount) (c.as_slice-2.ensures ∙ c.put_children.ensures.given)
-    ∙ ap (λ (b : Bool). b && is_none (first_named g c.as_slice-3.result.now (g c.args.mount))) (mount-outside t h c.args.mount is) in
+    let out : is_dropped g c.items-2.result c.items-3.result c.args.mount ≡ false =
+    ap (λ (ns : List ℕ). is_dropped g ns c.items-3.result c.args.mount) (c.items-2.ensures ∙ c.put_children.ensures.given)
+    ∙ ap (λ (b : Bool). b && is_none (first_named g c.items-3.result (g c.args.mount))) (mount-outside t h c.args.mount is) in
     c.take_dropped.ensures.numbers c.args.mount
     ∙ ap (λ (b : Bool). cond b false (has_node c.put_unknown-self-inside.new.nodes c.args.mount)) out
     ∙ c.put_unknown-self-inside.ensures.numbers c.args.mount ∙ c.put_children.ensures.numbers c.args.mount
     ∙ entry-node t.nodes c.args.mount entry.0 entry.1
 
-module _ (c : goal.After-drop-numbers-inside) where
+module _ (c : goal.After-drop-numbers-inside-2) where
   abbrev t : Inside
   t = c.self.inside
 
@@ -119,25 +119,25 @@ module _ (c : goal.After-drop-numbers-inside) where
   is : is_mount_at (state_of c.self.inside).entries c.args.mount ≡ true
   is = mount-inside c.self.inside c.args.self.now c.self.view_is c.args.mount c.requires.mount
 
-  same : first_named (name_of c.put_children.new.nodes) c.as_slice.result.now ≡ find c.self.inside c.self.invariant.shaped c.args.mount is
-  same = finds c.self.inside c.args.self.now c.self.view_is c.args.mount c.self.invariant.shaped is (name_of c.put_children.new.nodes) c.as_slice.result.now c.put_children.ensures.names (c.as_slice.ensures ∙ c.put_children.ensures.given)
+  same : first_named (name_of c.put_children.new.nodes) c.items.result ≡ find c.self.inside c.self.invariant.shaped c.args.mount is
+  same = finds c.self.inside c.args.self.now c.self.view_is c.args.mount c.self.invariant.shaped is (name_of c.put_children.new.nodes) c.items.result c.put_children.ensures.names (c.items.ensures ∙ c.put_children.ensures.given)
 
   numbers : c.from_vec-numbers.result.items ≡ numbers_from (find c.self.inside c.self.invariant.shaped c.args.mount is) c.self.inside.next c.args.documents
   numbers = ap (λ (x : Listed). x.items) c.from_vec-numbers.ensures ∙ c.numbers_in.ensures ∙ ap numbers_in (c.replace-ready.ensures.value ∙ ready-inside c.self.inside c.args.self.now c.self.view_is c.args.mount c.self.invariant.shaped is c.args.documents c.requires.ready)
 
   named : (q : ℕ) → name_of c.put_unknown-self-inside.new.nodes q ≡ with_names (documents c.self.inside c.self.invariant.shaped c.args.mount is c.args.documents) (name_of c.self.inside.nodes) q
-  named = names-put c.self.inside c.self.invariant.shaped c.args.mount is c.args.documents (first_named (name_of c.put_children.new.nodes) c.as_slice.result.now) same (name_of c.put_unknown-self-inside.new.nodes) (name_of c.put_children.new.nodes) c.put_children.ensures.names c.put_unknown-self-inside.ensures.names
+  named = names-put c.self.inside c.self.invariant.shaped c.args.mount is c.args.documents (first_named (name_of c.put_children.new.nodes) c.items.result) same (name_of c.put_unknown-self-inside.new.nodes) (name_of c.put_children.new.nodes) c.put_children.ensures.names c.put_unknown-self-inside.ensures.names
 
   put : (q : ℕ) → entry_of c.put_unknown-self-inside.new.nodes q ≡ with_entries (documents c.self.inside c.self.invariant.shaped c.args.mount is c.args.documents) (entry_of c.self.inside.nodes) q
-  put = entries-put c.self.inside c.self.invariant.shaped c.args.mount is c.args.documents (first_named (name_of c.put_children.new.nodes) c.as_slice.result.now) same (entry_of c.put_unknown-self-inside.new.nodes) (entry_of c.put_children.new.nodes) c.put_children.ensures.entries c.put_unknown-self-inside.ensures.entries
+  put = entries-put c.self.inside c.self.invariant.shaped c.args.mount is c.args.documents (first_named (name_of c.put_children.new.nodes) c.items.result) same (entry_of c.put_unknown-self-inside.new.nodes) (entry_of c.put_children.new.nodes) c.put_children.ensures.entries c.put_unknown-self-inside.ensures.entries
 
   abbrev left : ℕ → Bool
   left = leaves c.self.inside c.self.invariant.shaped c.args.mount is c.args.documents
 
-  dropped : (q : ℕ) → is_dropped (name_of c.put_unknown-self-inside.new.nodes) c.as_slice-2.result.now c.as_slice-3.result.now q ≡ leaves c.self.inside c.self.invariant.shaped c.args.mount is c.args.documents q
+  dropped : (q : ℕ) → is_dropped (name_of c.put_unknown-self-inside.new.nodes) c.items-2.result c.items-3.result q ≡ leaves c.self.inside c.self.invariant.shaped c.args.mount is c.args.documents q
   dropped q =
-      ap (λ (ns : List ℕ). is_dropped (name_of c.put_unknown-self-inside.new.nodes) ns c.as_slice-3.result.now q) (c.as_slice-2.ensures ∙ c.put_children.ensures.given)
-      ∙ ap (λ (ns : List ℕ). is_dropped (name_of c.put_unknown-self-inside.new.nodes) (kids_of c.self.inside.nodes c.args.mount) ns q) (c.as_slice-3.ensures ∙ numbers)
+      ap (λ (ns : List ℕ). is_dropped (name_of c.put_unknown-self-inside.new.nodes) ns c.items-3.result q) (c.items-2.ensures ∙ c.put_children.ensures.given)
+      ∙ ap (λ (ns : List ℕ). is_dropped (name_of c.put_unknown-self-inside.new.nodes) (kids_of c.self.inside.nodes c.args.mount) ns q) (c.items-3.ensures ∙ numbers)
       ∙ dropped-told c.self.inside c.self.invariant.shaped c.args.mount is c.args.documents (name_of c.put_unknown-self-inside.new.nodes) named q
 
   redone : IsRedone c.self.inside c.self.invariant.shaped c.args.mount is c.args.documents u

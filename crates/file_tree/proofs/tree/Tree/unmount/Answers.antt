@@ -5,7 +5,7 @@ use Rattle.hac_model.specs.Tree.{is_mount_at}
 use Rattle.hac_model.specs.Tree.Valid.{IsLayout}
 use Rattle.hac_model.specs.declared.states.Entry.{Entry}
 use Rattle.file_tree.specs.Documents.{is_dropped}
-use Rattle.file_tree.specs.Listed.{Listed}
+use Rattle.tiered_list.specs.Listed.{Listed}
 use Rattle.file_tree.specs.Nodes.{entry_of, has_node, kids_of, name_of}
 use Rattle.file_tree.specs.Seen.{Seen}
 use Rattle.file_tree.specs.Shape.{HasSpare, NamesRise, seen_of, state_of}
@@ -40,13 +40,16 @@ take_dropped-requires-clause-rise c =
     let h = c.self.invariant.shaped in
     let is = mount-inside t (record { state = c.args.self.now.state; ready = Nothing }) (c.self.view_is ∙ c.forget.ensures) c.args.mount c.requires.mount in
     let outside = apart t h c.args.mount is c.parent_at-parent.result c.parent_at-parent.ensures in
-    let known : c.as_slice.result.now ≡ kids_of t.nodes c.args.mount =
-    c.as_slice.ensures ∙ c.put_children.ensures.given ∙ c.drop_child.ensures.kids c.args.mount
+    let known : c.items.result ≡ kids_of t.nodes c.args.mount =
+    c.items.ensures ∙ c.put_children.ensures.given ∙ c.drop_child.ensures.kids c.args.mount
     ∙ told-there c.parent_at-parent.result (remove (kids_of t.nodes c.parent_at-parent.result) c.place_at-place.result) (kids_of t.nodes) c.args.mount (λ same. outside (sym same)) in
     subst (λ (ns : List ℕ). NamesRise (name_of c.put_children.new.nodes) ns) (sym known)
     (rises-same (name_of t.nodes) (name_of c.put_children.new.nodes) (kids_of t.nodes c.args.mount) (λ n among. c.put_children.ensures.names n ∙ c.drop_child.ensures.names n) (h.lists.rises c.args.mount))
 
-module _ (c : goal.After-drop-documents-inside) where
+pub take_dropped-requires-clause-kept_rise : goal.take_dropped-requires-clause-kept_rise
+take_dropped-requires-clause-kept_rise c = subst (λ (ns : List ℕ). NamesRise (name_of c.put_children.new.nodes) ns) (sym c.from_slice.ensures) tt
+
+module _ (c : goal.After-drop-documents-inside-2) where
   abbrev u : Inside
   u = record c.self.inside { nodes = c.take_out.new.nodes; counts = c.args.counts }
 
@@ -59,17 +62,17 @@ module _ (c : goal.After-drop-documents-inside) where
   is : is_mount_at (state_of c.self.inside).entries c.args.mount ≡ true
   is = mount-inside c.self.inside (record { state = c.args.self.now.state; ready = Nothing }) view c.args.mount c.requires.mount
 
-  known : c.as_slice.result.now ≡ kids_of c.self.inside.nodes c.args.mount
+  known : c.items.result ≡ kids_of c.self.inside.nodes c.args.mount
   known =
-      c.as_slice.ensures ∙ c.put_children.ensures.given ∙ c.drop_child.ensures.kids c.args.mount
+      c.items.ensures ∙ c.put_children.ensures.given ∙ c.drop_child.ensures.kids c.args.mount
       ∙ told-there c.parent_at-parent.result (remove (kids_of c.self.inside.nodes c.parent_at-parent.result) c.place_at-place.result) (kids_of c.self.inside.nodes) c.args.mount
       (λ same. apart c.self.inside c.self.invariant.shaped c.args.mount is c.parent_at-parent.result c.parent_at-parent.ensures (sym same))
 
   abbrev out : ℕ → Bool
   out = inside c.self.inside c.self.invariant.shaped c.args.mount is c.parent_at-parent.result c.parent_at-parent.ensures
 
-  dropped : (q : ℕ) → is_dropped (name_of c.put_children.new.nodes) c.as_slice.result.now [] q ≡ inside c.self.inside c.self.invariant.shaped c.args.mount is c.parent_at-parent.result c.parent_at-parent.ensures q
-  dropped q = ap (λ (ns : List ℕ). is_dropped (name_of c.put_children.new.nodes) ns [] q) known
+  dropped : (q : ℕ) → is_dropped (name_of c.put_children.new.nodes) c.items.result c.from_slice.result q ≡ inside c.self.inside c.self.invariant.shaped c.args.mount is c.parent_at-parent.result c.parent_at-parent.ensures q
+  dropped q = (λ i. is_dropped (name_of c.put_children.new.nodes) (known i) (c.from_slice.ensures i) q)
 
   gone : IsUnmounted c.self.inside c.self.invariant.shaped c.args.mount is c.parent_at-parent.result c.parent_at-parent.ensures u
   gone = record {

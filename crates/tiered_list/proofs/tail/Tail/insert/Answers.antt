@@ -1,9 +1,9 @@
 use Rattle.std.proofs.Common.{◌≡◌, ◌<◌, ◌≤◌, ◌+◌, ◌-◌, length, ap, refl, sym, subst, ◌∙◌, arith}
 use Rattle.std.specs.Prelude.{insert, take}
 use Rattle.std.proofs.lemmas.List.{length-set, length-take-le, take-take}
-use Rattle.file_tree.specs.Listed.{Listed}
-use Rattle.file_tree.proofs.ListLemmas.{rotated-inserts}
-use Rattle.file_tree.proofs.children.Children.insert.Goals as goal
+use Rattle.tiered_list.specs.Listed.{Listed}
+use Rattle.tiered_list.proofs.EditLemmas.{rotated-inserts}
+use Rattle.tiered_list.proofs.tail.Tail.insert.Goals as goal
 
 pub returns-clause-items : goal.returns-clause-items
 returns-clause-items c =

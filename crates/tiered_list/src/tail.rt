@@ -1,59 +1,72 @@
-//! The list of a directory's entries, which keeps places for more. It doesn't know what the numbers
-//! stand for.
+//! The end of a list, which is no full run yet. It keeps places for more.
 ghost use Rattle.std.specs.Prelude.{◌≡◌, ◌+◌, ◌<◌, ◌≤◌, [], insert, length, remove, OnOk};
 
 use hac_model::{Memory, Number};
 use std::alloc::Global;
 use std::marker::Model;
 
-/// The entries of a directory, in byte order of names, with places for more.
+/// Numbers, with places for more.
 #[derive(Debug, Drop)]
-pub(crate) struct Children {
-    // The entries, and behind them places for more.
+pub(crate) struct Tail {
+    // The numbers, and behind them places for more.
     numbers: Vec<Number>,
-    // How many entries there are.
+    // How many numbers there are.
     count: usize,
 }
 
-impl Model for Children {
-    ghost use Rattle.file_tree.specs.Listed.{Listed};
+impl Model for Tail {
+    ghost use Rattle.tiered_list.specs.Listed.{Listed};
 
     ghost Value = { Listed };
 
-    ghost use Rattle.file_tree.specs.Children.{listed_of, HasCount};
+    ghost use Rattle.tiered_list.specs.Counted.{counted, HasCount};
 
-    ghost view = { listed_of };
+    ghost view = { counted };
 
     ghost invariant = { HasCount };
 }
 
-impl Children {
-    /// No entries.
-    pub(crate) fn new(alloc: Global) -> Children
+impl Tail {
+    /// No numbers.
+    pub(crate) fn new(alloc: Global) -> Tail
         ensures { result ≡ record { items = []; spare = 0 } }
     {
-        Children::from_vec(Vec::new(alloc))
+        Tail::from_vec(Vec::new(alloc))
     }
 
-    /// These entries, with no place for more.
-    pub(crate) fn from_vec(numbers: Vec<Number>) -> Children
+    /// These numbers, with no place for more.
+    pub(crate) fn from_vec(numbers: Vec<Number>) -> Tail
         ensures { result ≡ record { items = numbers.items; spare = 0 } }
     {
         let count = numbers.len();
-        Children { numbers, count }
+        Tail { numbers, count }
     }
 
-    /// The entries.
+    /// The numbers.
+    pub(crate) fn into_vec(mut self) -> Vec<Number>
+        ensures { result.items ≡ self.items }
+    {
+        self.numbers.truncate(self.count);
+        self.numbers
+    }
+
+    /// The numbers.
     pub(crate) fn as_slice(&self) -> &[Number]
         ensures { result.now ≡ self.now.items }
     {
         &self.numbers[..self.count]
     }
 
-    /// Makes a place for one more entry, unless there is one.
+    /// How many numbers there are.
+    pub(crate) fn len(&self) -> usize
+        ensures { result ≡ length self.now.items }
+    {
+        self.count
+    }
+
+    /// Makes a place for one more, unless there is one.
     pub(crate) fn reserve(&mut self) -> Result<(), Memory>
         ensures items { self.new.items ≡ self.old.items }
-        ensures spare { self.old.spare ≤ self.new.spare }
         ensures place { OnOk result (0 < self.new.spare) }
     {
         if self.count == self.numbers.len() {
@@ -62,7 +75,7 @@ impl Children {
         Ok(())
     }
 
-    /// Inserts an entry, which takes one of the places for more.
+    /// Inserts a number, which takes one of the places for more.
     pub(crate) fn insert(&mut self, place: usize, number: Number)
         requires spare { 0 < self.old.spare }
         requires place { place ≤ length self.old.items }
@@ -74,13 +87,13 @@ impl Children {
         self.count += 1;
     }
 
-    /// Removes an entry. As many places are left for more.
+    /// Removes a number, which leaves a place for more.
     pub(crate) fn remove(&mut self, place: usize)
         requires { place < length self.old.items }
         ensures items { self.new.items ≡ remove self.old.items place }
-        ensures spare { self.new.spare ≡ self.old.spare }
+        ensures spare { self.new.spare ≡ self.old.spare + 1 }
     {
-        self.numbers.remove(place);
+        self.numbers[place..].rotate_left(1);
         self.count -= 1;
     }
 }

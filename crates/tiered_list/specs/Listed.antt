@@ -1,7 +1,7 @@
--- What callers see of the list of a directory's entries.
+-- What callers see of a list.
 use Rattle.std.specs.Prelude.{ℕ, List}
 
--- the entries, and how many places there are for more
+-- the numbers, and how many places there are for more
 pub record Listed : Type 0 where
   pub items : List ℕ
   pub spare : ℕ
