@@ -15,7 +15,7 @@ use Rattle.dep_graph.specs.Graphs as graph
 use Rattle.dep_graph.specs.Graphs.{edges_of, edges_with, replaced}
 use Rattle.dep_graph.specs.declared.graph.NewEdges.{NewEdges}
 use Rattle.link_kinds.specs.Seen.{Known, kind_at}
-use Rattle.kept_state.specs.Answers.{Answered, answers_kept, answers_put, answers_with}
+use Rattle.kept_facts.specs.Answers.{Answered, answers_kept, answers_put, answers_with}
 use Rattle.kept_state.specs.Seen.{Seen}
 use Rattle.kept_state.specs.declared.ready.Ready.{Ready}
 use Rattle.kept_state.specs.declared.ready.Ready.TheVariants.{Change}

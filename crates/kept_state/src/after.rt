@@ -12,18 +12,18 @@ ghost use Rattle.dep_graph.specs.Graphs.{edges_of, edges_with, replaced};
 ghost use Rattle.dep_graph.specs.Searches.{IsCone};
 ghost use Rattle.kept_state.specs.After.{answers_after, answers_next, edges_after, edges_next};
 ghost use Rattle.link_kinds.specs.Seen.{kind_at};
+ghost use Rattle.kept_facts.specs.Answers.{answers_kept};
 ghost use Rattle.kept_state.specs.After.{are_quiet, mark_after, mark_next, next_state};
 ghost use Rattle.kept_state.specs.After.{query_after, query_next};
-ghost use Rattle.kept_state.specs.Answers.{answers_kept};
 ghost use Rattle.kept_state.specs.Readers.{mark_at};
 
-use crate::answers::{Answers, had};
 use crate::kept::KeptState;
-use crate::lenders::{behind_first, behind_named};
 use crate::ready::Ready;
 use dep_graph::{Graph, NewEdges};
 use file_tree::Tree;
 use hac_model::{Answer, Event, Kind, Mark, Memory, Number, Query, Term};
+use kept_facts::lenders::{behind_first, behind_named};
+use kept_facts::{Answers, had};
 use link_kinds::Links;
 use std::alloc::Global;
 

@@ -1,0 +1,4 @@
+pub mod Answers
+pub mod AnswersKept
+pub mod GainsKept
+pub mod Room
