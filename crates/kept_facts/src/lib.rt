@@ -1,7 +1,9 @@
 //! Parts of a state beside its tree, as a machine keeps them: the answers of spaces, by the mounts
-//! that keep them, what a directory depends on, and where sessions stand. It knows no tree.
+//! that keep them, what a directory depends on, and where sessions stand; and what they and marks
+//! will be after an event. It knows no tree.
 #![tactic(auto)]
 
+pub mod after;
 mod answers;
 mod edges;
 mod gains;

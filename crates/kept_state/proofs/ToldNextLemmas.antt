@@ -19,7 +19,7 @@ use Rattle.hac_model.proofs.ValidLemmas.{setq-parts}
 use Rattle.dep_graph.specs.declared.graph.NewEdges.{NewEdges}
 use Rattle.kept_facts.specs.Answers.{answers_kept, answers_put}
 use Rattle.kept_facts.specs.declared.answers.NewAnswers.{NewAnswers}
-use Rattle.kept_state.specs.After.{answers_after}
+use Rattle.kept_facts.specs.After.{answers_after}
 use Rattle.kept_state.specs.Parts.{IsLinked, facts_kept, state_of}
 use Rattle.kept_state.specs.Ready.{IsPreparedFor}
 use Rattle.kept_state.specs.declared.parts.Parts.{Parts}

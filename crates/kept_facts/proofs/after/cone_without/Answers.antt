@@ -3,7 +3,7 @@ use Rattle.std.specs.Prelude.{IfOk}
 use Rattle.hac_model.specs.Tree.Depends.{NeverReturns}
 use Rattle.dep_graph.specs.Graphs.{edges_of, replaced}
 use Rattle.dep_graph.specs.Searches.{IsCone}
-use Rattle.kept_state.proofs.after.cone_without.Goals as goal
+use Rattle.kept_facts.proofs.after.cone_without.Goals as goal
 
 pub cone-requires : goal.cone-requires
 cone-requires c = subst (λ (none : List ℕ). NeverReturns (replaced (edges_of c.args.graph.now) c.args.bared none)) (sym c.new.ensures.items) c.requires

@@ -2,8 +2,8 @@ use Rattle.std.proofs.Common.{◌≡◌, ℕ, List, [], subst, rules}
 use Rattle.std.specs.Option.{option_copied}
 use Rattle.hac_model.specs.Tree.Depends.{NeverReturns}
 use Rattle.dep_graph.specs.Graphs.{edges_of, edges_with, replaced}
-use Rattle.kept_state.specs.After.{edges_after}
-use Rattle.kept_state.proofs.after.cone_after.Goals as goal
+use Rattle.kept_facts.specs.After.{edges_after}
+use Rattle.kept_facts.proofs.after.cone_after.Goals as goal
 
 pub cone-requires : goal.cone-requires
 cone-requires c =
