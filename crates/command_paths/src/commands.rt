@@ -1,7 +1,7 @@
 //! Each command with what its paths lead to, from left to right.
-ghost use Rattle.std.specs.Prelude.{◌≡◌, IsTrue};
-ghost use Rattle.hac_model.specs.Run.Answers.{Answers};
-ghost use Rattle.hac_model.specs.Run.Resolving.{resolve, resolved, resolved_for};
+ghost use Rattle.std.specs.Prelude.{◌≡◌, ℕ, IsTrue};
+ghost use Rattle.hac_model.specs.Run.Answers.{Answers, AnswersSeen};
+ghost use Rattle.hac_model.specs.Run.Resolving.{item_and_dir, resolve, resolved, resolved_for};
 ghost use Rattle.hac_model.specs.Tree.{is_directory_at};
 
 use crate::resolving::{
@@ -236,8 +236,7 @@ fn sln(tree: &Tree, base: Number, item: &PathWord, dir: &PathWord) -> Result<Res
     requires { IsTrue (is_directory_at tree.now.state.entries base) }
     ensures { Answers result (resolved tree.now.state base (Command.Sln item.now dir.now)) }
 {
-    let item = entry(tree, base, item, true)?;
-    let dir = directory(tree, base, dir)?;
+    let (item, dir) = item_and_directory(tree, base, item, dir)?;
     Ok(Resolved::Sln { item, dir })
 }
 
@@ -246,8 +245,7 @@ fn srm(tree: &Tree, base: Number, item: &PathWord, dir: &PathWord) -> Result<Res
     requires { IsTrue (is_directory_at tree.now.state.entries base) }
     ensures { Answers result (resolved tree.now.state base (Command.Srm item.now dir.now)) }
 {
-    let item = entry(tree, base, item, true)?;
-    let dir = directory(tree, base, dir)?;
+    let (item, dir) = item_and_directory(tree, base, item, dir)?;
     Ok(Resolved::Srm { item, dir })
 }
 
@@ -256,9 +254,24 @@ fn sforget(tree: &Tree, base: Number, item: &PathWord, dir: &PathWord) -> Result
     requires { IsTrue (is_directory_at tree.now.state.entries base) }
     ensures { Answers result (resolved tree.now.state base (Command.Sforget item.now dir.now)) }
 {
+    let (item, dir) = item_and_directory(tree, base, item, dir)?;
+    Ok(Resolved::Sforget { item, dir })
+}
+
+/// The item and the directory to which two path words lead, whatever is made of them.
+fn item_and_directory(
+    tree: &Tree,
+    base: Number,
+    item: &PathWord,
+    dir: &PathWord,
+) -> Result<(Number, Number), Deny>
+    requires { IsTrue (is_directory_at tree.now.state.entries base) }
+    ensures { (make : ℕ → ℕ → Resolved) → AnswersSeen (λ found. make found.0 found.1) result
+        (item_and_dir make tree.now.state base item.now dir.now) }
+{
     let item = entry(tree, base, item, true)?;
     let dir = directory(tree, base, dir)?;
-    Ok(Resolved::Sforget { item, dir })
+    Ok((item, dir))
 }
 
 /// `find QUERY`.

@@ -26,8 +26,9 @@ use Rattle.hac_model.proofs.NextLemmas.{next-own, next-state}
 use Rattle.dep_graph.specs.Graphs as graph
 use Rattle.dep_graph.specs.Graphs.{edges_of, edges_with, replaced}
 use Rattle.dep_graph.specs.declared.graph.NewEdges.{NewEdges}
-use Rattle.kept_state.specs.After.{answers_next, are_quiet, edges_after, edges_next, mark_next, next_state, query_next}
-use Rattle.kept_state.specs.Answers.{AreInOrder}
+use Rattle.kept_facts.specs.After.{edges_after}
+use Rattle.kept_facts.specs.Answers.{AreInOrder}
+use Rattle.kept_state.specs.After.{answers_next, are_quiet, edges_next, mark_next, next_state, query_next}
 use Rattle.kept_state.specs.Kept.{IsKept, seen_of}
 use Rattle.kept_state.specs.Parts.{IsLinked, WillHave, edges_marked, edges_then, facts_kept, state_of}
 use Rattle.kept_state.specs.Readers.{mark_at}

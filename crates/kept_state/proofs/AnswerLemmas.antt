@@ -12,7 +12,7 @@ use Rattle.hac_model.specs.declared.states.Body.{Body}
 use Rattle.hac_model.specs.declared.states.Body.TheVariants.{File, Dir, Symlink, Semantic, Mount, Document}
 use Rattle.hac_model.specs.declared.states.Entry.{Entry}
 use Rattle.hac_model.specs.declared.states.State.{State}
-use Rattle.kept_state.specs.Answers.{AreInOrder, answers_kept}
+use Rattle.kept_facts.specs.Answers.{AreInOrder, answers_kept}
 use Rattle.kept_state.specs.Parts.{IsLinked, state_of}
 use Rattle.kept_state.specs.declared.parts.Parts.{Parts}
 

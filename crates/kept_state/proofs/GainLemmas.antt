@@ -1,12 +1,11 @@
 -- What mounts gain: they are looked at one after the other, and each takes as much of what was told as it was asked for.
-use Rattle.std.proofs.Common.{◌≡◌, ℕ, zero, suc, ◌+◌, ◌<◌, ◌≤◌, Bool, true, false, cond, List, [], ◌∷◌, ◌++◌, append_assoc, drop, length, take, map, refl, ap, subst, sym, ◌∙◌, arith, inl, inr}
-use Rattle.std.specs.Prelude.{◌==◌, not, if◌then◌else◌, nat_le, Option, Some, None}
-use Rattle.std.specs.List.{insert, list_all, prefix_len}
+use Rattle.std.proofs.Common.{◌≡◌, ℕ, zero, suc, ◌+◌, ◌<◌, ◌≤◌, Bool, true, false, cond, List, [], ◌∷◌, drop, length, take, map, refl, ap, subst, sym, ◌∙◌, arith, inl, inr}
+use Rattle.std.specs.Prelude.{◌==◌, if◌then◌else◌, nat_le, Option, Some, None}
+use Rattle.std.specs.List.{list_all}
 use Rattle.std.specs.Option.{option_map, option_map_or}
 use Rattle.std.proofs.lemmas.Bool.{and_parts, cases_lt, cases_order, eq-eqb, eqb-false, eqb-true, le-leb, leb-true, ne_eqb}
 use Rattle.hac_model.specs.Query.Formula.{Formula}
-use Rattle.hac_model.specs.Query.Terms.{is_term_before}
-use Rattle.hac_model.specs.Tree.Asking.{are_all_told, asked_by, gained, put_answer, unanswered, with_answers}
+use Rattle.hac_model.specs.Tree.Asking.{are_all_told, asked_by, gained, unanswered, with_answers}
 use Rattle.hac_model.specs.Tree.Facts.{Facts, facts_at, filled, filled_entry}
 use Rattle.hac_model.specs.Tree.Links.{answers_at}
 use Rattle.hac_model.specs.Tree.Mounting.{answers_to, are_told, is_told}
@@ -19,43 +18,14 @@ use Rattle.hac_model.specs.declared.states.Entry.{Entry}
 use Rattle.hac_model.specs.declared.states.State.{State}
 use Rattle.hac_model.specs.declared.terms.Term.{Term}
 use Rattle.hac_model.proofs.TreeLemmas.{entry_at-low, entry_at-next, entry_at-number}
-use Rattle.kept_state.specs.Answers.{answers_kept}
+use Rattle.kept_facts.specs.Answers.{answers_kept}
 use Rattle.kept_state.specs.Gains.{answers_then, asked_at}
 use Rattle.kept_state.specs.Parts.{IsLinked, facts_kept, state_of}
 use Rattle.kept_state.specs.declared.parts.Parts.{Parts}
 use Rattle.kept_state.proofs.AnswerLemmas.{kept-answers, mountless}
 use Rattle.hac_model.proofs.SortedLemmas.{drop-end}
+use Rattle.kept_facts.proofs.UseLemmas.{rest-all, rest-none, rest_from}
 use Rattle.kept_state.proofs.StateLemmas.{kept-bares, same-mount}
-use Rattle.kept_state.proofs.UseLemmas.{rest-all, rest-none, rest_from}
-
--- Answers are put among others.
-
--- an answer is put where those end that don't come behind it
-pub put-place : (new : Answer) (answers : List Answer) → put_answer new answers ≡ insert answers (prefix_len (λ answer. not (is_term_before new.term answer.term)) answers) new
-put-place new [] = refl
-put-place new (answer ∷ answers) =
-    let rest = prefix_len (λ answer. not (is_term_before new.term answer.term)) answers in
-    let more : 1 + rest ≡ suc rest = omega arith in
-    elim (is_term_before new.term answer.term) as (λ b. (if b then new ∷ answer ∷ answers else answer ∷ put_answer new answers) ≡ insert (answer ∷ answers) (cond (not b) (1 + rest) 0) new) [
-      | true ↦ refl
-      | false ↦ ap (λ (list : List Answer). answer ∷ list) (put-place new answers) ∙ ap (λ (k : ℕ). insert (answer ∷ answers) k new) (sym more)
-    ]
-
--- some answers are still to be put among others, and the others were
-pub record IsPutting (all answers left now : List Answer) : Type 0 where
-  pub done : List Answer
-  pub split : left ++ done ≡ all
-  pub put : now ≡ with_answers done answers
-
-pub putting-goes : (all answers left rest now new : List Answer) (answer : Answer) → IsPutting all answers left now → left ≡ rest ++ answer ∷ [] → new ≡ put_answer answer now → IsPutting all answers rest new
-putting-goes all answers left rest now new answer h is put = record {
-  done = answer ∷ h.done;
-  split = sym (append_assoc rest (answer ∷ []) h.done) ∙ ap (λ (list : List Answer). list ++ h.done) (sym is) ∙ h.split;
-  put = put ∙ ap (put_answer answer) h.put;
-}
-
-pub putting-ends : (all answers now : List Answer) → IsPutting all answers [] now → now ≡ with_answers all answers
-putting-ends all answers now h = h.put ∙ ap (λ (more : List Answer). with_answers more answers) h.split
 
 -- What was told is enough.
 
@@ -248,12 +218,6 @@ absent-none kept h n none =
 pub none-told : (told : List (List ℕ)) → (length told == 0) ≡ true → told ≡ []
 none-told [] none = refl
 none-told (numbers ∷ told) none = let no : length (numbers ∷ told) ≡ 0 = eqb-true (length (numbers ∷ told)) 0 none in absurd (omega (arith, no))
-
--- of what was told no more is taken than was asked
-pub answers-taken : (terms : List Term) (told : List (List ℕ)) → answers_to terms (take (length terms) told) ≡ answers_to terms told
-answers-taken [] told = refl
-answers-taken (term ∷ terms) [] = refl
-answers-taken (term ∷ terms) (numbers ∷ told) = ap (λ (rest : List Answer). record { term = term; documents = numbers } ∷ rest) (answers-taken terms told)
 
 -- the numbers below this one have what they keep then, and the others nothing yet; what is left is told to these
 pub record IsGaining (kept : Parts) (query : Formula ℕ) (told left : List (List ℕ)) (number : ℕ) (lists : ℕ → List Answer) : Type 0 where

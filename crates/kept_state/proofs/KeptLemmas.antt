@@ -26,7 +26,7 @@ use Rattle.dep_graph.specs.Graphs.{edges_of}
 use Rattle.dep_graph.specs.declared.graph.NewEdges.{NewEdges}
 use Rattle.link_kinds.specs.Kinds.{Lists}
 use Rattle.link_kinds.specs.Seen.{has_sets, lists_in, permanent_in, prohibited_in}
-use Rattle.kept_state.specs.Answers.{answers_kept}
+use Rattle.kept_facts.specs.Answers.{answers_kept}
 use Rattle.kept_state.specs.Kept.{IsKept}
 use Rattle.kept_state.specs.Parts.{AreAlike, IsLinked, edges_then, facts_kept, state_of}
 use Rattle.kept_state.specs.Ready.{IsCommitted, IsReady, CanCommit, IsPreparedFor, ready_events}

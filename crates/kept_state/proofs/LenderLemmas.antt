@@ -1,9 +1,8 @@
 -- The directories that users added to a directory, as they stand among its edges.
-use Rattle.std.proofs.Common.{◌≡◌, ℕ, ◌+◌, ◌≤◌, Bool, true, false, cond, List, [], ◌∷◌, ◌++◌, drop, one-add, subst, refl, ap, sym, ◌∙◌, arith, ◌<◌}
-use Rattle.std.specs.Prelude.{◌==◌, not, filter, nat_le, nat_lt, Option, Some, None, Result, Ok, Err, IfOk, IfSome, OnOk, option_and_then}
-use Rattle.std.specs.List.{insert, prefix_len}
+use Rattle.std.proofs.Common.{◌≡◌, ℕ, ◌+◌, ◌≤◌, Bool, true, false, cond, List, [], ◌∷◌, ◌++◌, drop, subst, refl, ap, sym, ◌∙◌, arith, ◌<◌}
+use Rattle.std.specs.Prelude.{◌==◌, not, filter, nat_lt, Option, Some, None, Result, Ok, Err, IfOk, IfSome, OnOk, option_and_then}
 use Rattle.std.specs.Option.{option_map, option_map_or}
-use Rattle.std.proofs.lemmas.Bool.{eqb-true, le-leb, lt-leb, lt-ltb, ltb-false, ltb-true}
+use Rattle.std.proofs.lemmas.Bool.{eqb-true, lt-ltb, ltb-true}
 use Rattle.hac_model.specs.Query.Formula.{Formula}
 use Rattle.hac_model.specs.Tree.Depends.{depends, named_in}
 use Rattle.hac_model.specs.Tree.Events.{put_in, without}
@@ -65,20 +64,6 @@ pub depends-asked : (s : State) (n : ℕ) (query : Formula ℕ) → query_at s n
 depends-asked s n query is = ap (λ (o : Option (Formula ℕ)). drop 1 (option_map_or (λ q. parent_of s n ∷ named_in q ++ lenders s n) o [])) is
 
 -- Marks on directories.
-
--- a number goes in its place: behind those that aren't above it
-pub put_in-place : (n : ℕ) (xs : List ℕ) → put_in n xs ≡ insert xs (prefix_len (λ other. nat_le other n) xs) n
-put_in-place n [] = refl
-put_in-place n (x ∷ xs) = at (put_in-place n xs) (nat_lt n x) refl
-  where
-    at : put_in n xs ≡ insert xs (prefix_len (λ other. nat_le other n) xs) n → (b : Bool) → nat_lt n x ≡ b → cond b (n ∷ x ∷ xs) (x ∷ put_in n xs) ≡ insert (x ∷ xs) (prefix_len (λ other. nat_le other n) (x ∷ xs)) n
-    at rest true less =
-        let above : nat_le x n ≡ false = lt-leb x n (ltb-true n x less) in
-        let none : prefix_len (λ other. nat_le other n) (x ∷ xs) ≡ 0 = rw above refl in
-        ap (λ (k : ℕ). insert (x ∷ xs) k n) (sym none)
-    at rest false less =
-        let fits : nat_le x n ≡ true = le-leb x n (ltb-false n x less) in
-        rw (fits, one-add) (ap (λ (ys : List ℕ). x ∷ ys) rest)
 
 -- where a number passes a test, it goes in its place among those that pass, too
 module _ (p : ℕ → Bool) (n : ℕ) where

@@ -5,15 +5,11 @@ pub mod LenderLemmas
 pub mod MountPutLemmas
 pub mod StateLemmas
 pub mod AnswerLemmas
-pub mod OrderLemmas
-pub mod UseLemmas
 pub mod GainLemmas
 pub mod ToldLemmas
 pub mod NameLemmas
 pub mod ForgetLemmas
 pub mod ReachLemmas
-pub mod RoomLemmas
-pub mod FewLemmas
 pub mod ReaderLemmas
 pub mod AskedLemmas
 pub mod MarkedLemmas

@@ -25,7 +25,7 @@ use Rattle.hac_model.proofs.TreeLemmas.{entry_at-below, entry_of}
 use Rattle.hac_model.proofs.ValidLemmas.{mark-parts}
 use Rattle.hac_model.proofs.ViewLemmas.{seen-removed}
 use Rattle.link_kinds.specs.Seen.{kind_at}
-use Rattle.kept_state.specs.After.{mark_after}
+use Rattle.kept_facts.specs.After.{mark_after}
 use Rattle.kept_state.specs.Parts.{IsLinked, facts_kept, state_of}
 use Rattle.kept_state.specs.Readers.{mark_at}
 use Rattle.kept_state.specs.declared.parts.Parts.{Parts}

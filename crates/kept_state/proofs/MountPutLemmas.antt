@@ -25,11 +25,11 @@ use Rattle.hac_model.proofs.ValidLemmas.{free-parts}
 use Rattle.dep_graph.specs.Graphs.{edges_of}
 use Rattle.file_tree.specs.Seen as tree
 use Rattle.link_kinds.specs.Seen.{Known, SameLinks, lists_in}
-use Rattle.kept_state.specs.Answers.{Answered, Replaces, answers_kept}
+use Rattle.kept_facts.specs.Answers.{Answered, Replaces, answers_kept}
+use Rattle.kept_facts.specs.declared.answers.NewAnswers.{NewAnswers}
 use Rattle.kept_state.specs.Forgetting.{ForgetsSuch, lists_without}
 use Rattle.kept_state.specs.Parts.{IsLinked, facts_kept, state_of}
 use Rattle.kept_state.specs.Ready.{AnswersReady, IsCommitted}
-use Rattle.kept_state.specs.declared.answers.NewAnswers.{NewAnswers}
 use Rattle.kept_state.specs.declared.parts.Parts.{Parts}
 use Rattle.kept_state.proofs.KeptLemmas.{has_edges, kept-lists, lists-still, put, sets-edges, unfound}
 use Rattle.kept_state.proofs.PutLemmas.{next-none}

@@ -8,7 +8,7 @@ use Rattle.hac_model.specs.declared.states.Session.{Session}
 use Rattle.hac_model.specs.declared.states.State.{State}
 use Rattle.hac_model.proofs.FactLemmas.{edges-told}
 use Rattle.hac_model.proofs.FillLemmas.{rejoined}
-use Rattle.kept_state.specs.Answers.{answers_kept}
+use Rattle.kept_facts.specs.Answers.{answers_kept}
 use Rattle.kept_state.specs.Parts.{IsLinked, facts_kept, state_of}
 use Rattle.kept_state.specs.Readers.{ArePartsOf}
 use Rattle.kept_state.specs.declared.parts.Parts.{Parts}

@@ -33,7 +33,7 @@ use Rattle.set_pool.specs.Rising as items
 use Rattle.link_kinds.specs.Kinds.{no_lists, with_kind, without_item}
 use Rattle.link_kinds.specs.Seen.{ChangesDir, DropsItem, Known, LinkListsRise, SameLinks, has_sets, lists_in, permanent_in, prohibited_in, transient_in}
 use Rattle.link_kinds.proofs.PutLemmas.{inserted-put, removed-without}
-use Rattle.kept_state.specs.Answers.{Answered, answers_kept, answers_with}
+use Rattle.kept_facts.specs.Answers.{Answered, answers_kept, answers_with}
 use Rattle.kept_state.specs.Gains.{AreGains, answers_then}
 use Rattle.kept_state.specs.Parts.{IsLinked, edges_marked, edges_then, facts_kept, state_of}
 use Rattle.kept_state.specs.Ready.{IsCommitted}

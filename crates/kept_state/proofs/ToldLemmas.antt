@@ -22,7 +22,7 @@ use Rattle.hac_model.proofs.GainLemmas.{IsToldTo, entry_at-gains, told-to}
 use Rattle.hac_model.proofs.MountKeptLemmas.{rise-told}
 use Rattle.hac_model.proofs.ToldLemmas.{told-rise, told-sound}
 use Rattle.hac_model.proofs.TreeLemmas.{entry_at-number}
-use Rattle.kept_state.specs.Answers.{AreInOrder, answers_kept, answers_with}
+use Rattle.kept_facts.specs.Answers.{AreInOrder, answers_kept, answers_with}
 use Rattle.kept_state.specs.Gains.{AreGains, AreGainsOf}
 use Rattle.kept_state.specs.Parts.{IsLinked, facts_kept, state_of}
 use Rattle.kept_state.specs.declared.parts.Parts.{Parts}

@@ -17,11 +17,11 @@ use Rattle.hac_model.specs.declared.states.State.{State}
 use Rattle.hac_model.proofs.TreeLemmas.{entry_at-next}
 use Rattle.hac_model.proofs.ValidLemmas.{setq-parts}
 use Rattle.dep_graph.specs.declared.graph.NewEdges.{NewEdges}
-use Rattle.kept_state.specs.After.{answers_after}
-use Rattle.kept_state.specs.Answers.{answers_kept, answers_put}
+use Rattle.kept_facts.specs.Answers.{answers_kept, answers_put}
+use Rattle.kept_facts.specs.declared.answers.NewAnswers.{NewAnswers}
+use Rattle.kept_facts.specs.After.{answers_after}
 use Rattle.kept_state.specs.Parts.{IsLinked, facts_kept, state_of}
 use Rattle.kept_state.specs.Ready.{IsPreparedFor}
-use Rattle.kept_state.specs.declared.answers.NewAnswers.{NewAnswers}
 use Rattle.kept_state.specs.declared.parts.Parts.{Parts}
 use Rattle.kept_state.proofs.KeptLemmas.{answers-still}
 use Rattle.kept_state.proofs.PutLemmas.{asked-none, made-none, next-none, plain-then, told-but}

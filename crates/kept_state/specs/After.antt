@@ -1,21 +1,20 @@
 -- What a state will be after the events that it is ready for.
-use Rattle.std.specs.Prelude.{ℕ, Bool, true, false, ◌==◌, ◌&&◌, if◌then◌else◌, List, [], Option, Some, None}
+use Rattle.std.specs.Prelude.{ℕ, Bool, true, false, List, Option, Some, None}
 use Rattle.std.specs.List.{list_all}
 use Rattle.hac_model.specs.Query.Formula.{Formula}
 use Rattle.hac_model.specs.Tree.Events.{apply_all}
 use Rattle.hac_model.specs.Tree.Facts.{put_at}
 use Rattle.hac_model.specs.Tree.Links.{query_at}
 use Rattle.hac_model.specs.declared.events.Event.{Event}
-use Rattle.hac_model.specs.declared.events.Event.TheVariants.{Smkdir, Setq, Unq, Mark, Mv, Rmdir, Smount, Ssync, Sumount, Step, Cd}
+use Rattle.hac_model.specs.declared.events.Event.TheVariants.{Smkdir, Setq, Unq, Rmdir, Step, Cd}
 use Rattle.hac_model.specs.declared.marks.Kind.{Kind}
-use Rattle.hac_model.specs.declared.marks.Kind.TheVariants.{Unlinked}
 use Rattle.hac_model.specs.declared.states.Answer.{Answer}
 use Rattle.hac_model.specs.declared.states.State.{State}
 use Rattle.dep_graph.specs.Graphs as graph
-use Rattle.dep_graph.specs.Graphs.{edges_of, edges_with, replaced}
-use Rattle.dep_graph.specs.declared.graph.NewEdges.{NewEdges}
+use Rattle.dep_graph.specs.Graphs.{edges_of}
 use Rattle.link_kinds.specs.Seen.{Known, kind_at}
-use Rattle.kept_state.specs.Answers.{Answered, answers_kept, answers_put, answers_with}
+use Rattle.kept_facts.specs.After.{answers_after, edges_after, mark_after}
+use Rattle.kept_facts.specs.Answers.{Answered, answers_kept}
 use Rattle.kept_state.specs.Seen.{Seen}
 use Rattle.kept_state.specs.declared.ready.Ready.{Ready}
 use Rattle.kept_state.specs.declared.ready.Ready.TheVariants.{Change}
@@ -34,17 +33,7 @@ is_quiet other = false
 abbrev pub are_quiet : List Event → Bool
 are_quiet events = list_all is_quiet events
 
--- the edges of each directory after an event, by those that were prepared for it
-abbrev pub edges_after : Event → Option NewEdges → graph.Seen → ℕ → List ℕ
-edges_after (Smkdir dir name query told) edges known = edges_with known edges
-edges_after (Setq dir query told) edges known = edges_with known edges
-edges_after (Mark mark) edges known = edges_with known edges
-edges_after (Mv entry dir name) edges known = edges_with known edges
-edges_after (Unq dir) edges known = replaced (edges_of known) dir []
-edges_after (Rmdir dir) edges known = replaced (edges_of known) dir []
-edges_after other edges known = edges_of known
-
--- the same after all that is ready
+-- the edges of each directory after all that is ready
 abbrev pub edges_next : Ready → graph.Seen → ℕ → List ℕ
 edges_next (Change event edges counts) known = edges_after event edges known
 edges_next other known = edges_of known
@@ -62,28 +51,12 @@ abbrev pub query_next : Ready → State → ℕ → Option (Formula ℕ)
 query_next (Change event edges counts) tree = query_after event tree
 query_next other tree = query_at tree
 
--- the mark of an item in a directory after an event, where the item is still there
-abbrev pub mark_after : Event → Known → ℕ → ℕ → Kind
-mark_after (Mark mark) marks dir item = if dir == mark.dir && item == mark.item then mark.kind else kind_at marks dir item
-mark_after (Unq bared) marks dir item = if dir == bared then Unlinked else kind_at marks dir item
-mark_after (Rmdir bared) marks dir item = if dir == bared then Unlinked else kind_at marks dir item
-mark_after other marks dir item = kind_at marks dir item
-
--- the same after all that is ready
+-- the mark of an item in a directory after all that is ready, where the item is still there
 abbrev pub mark_next : Ready → Known → ℕ → ℕ → Kind
 mark_next (Change event edges counts) marks dir item = mark_after event marks dir item
 mark_next other marks dir item = kind_at marks dir item
 
--- the answers of each mount after an event, by those that were prepared for it
-abbrev pub answers_after : Event → Answered → ℕ → List Answer
-answers_after (Smkdir dir name query told) known = answers_with (answers_kept known) known.told
-answers_after (Setq dir query told) known = answers_with (answers_kept known) known.told
-answers_after (Smount dir name space documents told) known = answers_put (answers_kept known) known.ready
-answers_after (Ssync mount documents told) known = answers_put (answers_kept known) known.ready
-answers_after (Sumount gone) known = put_at (answers_kept known) gone []
-answers_after other known = answers_kept known
-
--- the same after all that is ready
+-- the answers of each mount after all that is ready
 abbrev pub answers_next : Ready → Answered → ℕ → List Answer
 answers_next (Change event edges counts) known = answers_after event known
 answers_next other known = answers_kept known

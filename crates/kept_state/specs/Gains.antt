@@ -8,7 +8,7 @@ use Rattle.hac_model.specs.Tree.{entry_at}
 use Rattle.hac_model.specs.declared.states.Answer.{Answer}
 use Rattle.hac_model.specs.declared.states.State.{State}
 use Rattle.hac_model.specs.declared.terms.Term.{Term}
-use Rattle.kept_state.specs.Answers.{AreInOrder, answers_kept, answers_with}
+use Rattle.kept_facts.specs.Answers.{AreInOrder, answers_kept, answers_with}
 use Rattle.kept_state.specs.declared.parts.Parts.{Parts}
 
 -- the terms for which the mount of a number has to be asked

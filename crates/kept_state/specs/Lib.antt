@@ -1,11 +1,7 @@
 pub mod Ready
 pub mod Parts
-pub mod Answers
-pub mod AnswersKept
 pub mod Gains
-pub mod GainsKept
 pub mod Forgetting
-pub mod Room
 pub mod Readers
 pub mod Seen
 pub mod Kept

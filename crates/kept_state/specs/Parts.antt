@@ -11,7 +11,7 @@ use Rattle.dep_graph.specs.Graphs.{edges_of}
 use Rattle.dep_graph.specs.Graphs as graph
 use Rattle.dep_graph.specs.declared.graph.NewEdges.{NewEdges}
 use Rattle.link_kinds.specs.Seen.{Known, SameKinds, has_sets, lent_in, permanent_in, prohibited_in, transient_in}
-use Rattle.kept_state.specs.Answers.{SameAnswers, answers_kept}
+use Rattle.kept_facts.specs.Answers.{SameAnswers, answers_kept}
 use Rattle.kept_state.specs.declared.parts.Parts.{Parts}
 
 -- the marks of a directory

@@ -18,7 +18,7 @@ use Rattle.file_tree.specs.Documents.{numbers_for}
 use Rattle.file_tree.specs.declared.ready.Ready.TheVariants as tree
 use Rattle.file_tree.specs.declared.tree.EntryKind.TheVariants as kind
 use Rattle.link_kinds.specs.Seen.{has_sets}
-use Rattle.kept_state.specs.Answers.{answers_kept}
+use Rattle.kept_facts.specs.Answers.{answers_kept}
 use Rattle.kept_state.specs.Gains.{AreGains}
 use Rattle.kept_state.specs.Parts.{IsLinked, WillHave, edges_marked, edges_then, state_of}
 use Rattle.kept_state.specs.declared.parts.Parts.{Parts}

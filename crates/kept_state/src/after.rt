@@ -1,29 +1,25 @@
 //! What a state will be after the events that it is ready for. It asks what was prepared, and
 //! changes nothing.
-ghost use Rattle.std.specs.Prelude.{◌≡◌, ◌==◌, ◌&&◌, ◌∷◌, [], IfNone, IfOk, IfSome, IsTrue};
-ghost use Rattle.std.specs.Prelude.{if◌then◌else◌};
+ghost use Rattle.std.specs.Prelude.{◌≡◌, ◌∷◌, [], IfNone, IfOk, IfSome, IsTrue};
 ghost use Rattle.std.specs.Option.{option_copied};
 ghost use Rattle.hac_model.specs.Tree.Depends.{NeverReturns, depends};
 ghost use Rattle.hac_model.specs.Tree.Events.{accepted};
 ghost use Rattle.hac_model.specs.Tree.Facts.{put_at};
 ghost use Rattle.hac_model.specs.Tree.Links.{has, is_item, kept_at, lenders, query_at};
 ghost use Rattle.hac_model.specs.Tree.Sessions.{is_stored};
-ghost use Rattle.dep_graph.specs.Graphs.{edges_of, edges_with, replaced};
 ghost use Rattle.dep_graph.specs.Searches.{IsCone};
-ghost use Rattle.kept_state.specs.After.{answers_after, answers_next, edges_after, edges_next};
-ghost use Rattle.link_kinds.specs.Seen.{kind_at};
-ghost use Rattle.kept_state.specs.After.{are_quiet, mark_after, mark_next, next_state};
-ghost use Rattle.kept_state.specs.After.{query_after, query_next};
-ghost use Rattle.kept_state.specs.Answers.{answers_kept};
+ghost use Rattle.kept_state.specs.After.{answers_next, are_quiet, edges_next, mark_next};
+ghost use Rattle.kept_state.specs.After.{next_state, query_after, query_next};
 ghost use Rattle.kept_state.specs.Readers.{mark_at};
 
-use crate::answers::{Answers, had};
 use crate::kept::KeptState;
-use crate::lenders::{behind_first, behind_named};
 use crate::ready::Ready;
-use dep_graph::{Graph, NewEdges};
+use dep_graph::Graph;
 use file_tree::Tree;
-use hac_model::{Answer, Event, Kind, Mark, Memory, Number, Query, Term};
+use hac_model::{Answer, Event, Kind, Memory, Number, Query, Term};
+use kept_facts::after::{answers_after, cone_after, edges_after, mark_after};
+use kept_facts::lenders::{behind_first, behind_named};
+use kept_facts::{Answers, had};
 use link_kinds::Links;
 use std::alloc::Global;
 
@@ -99,43 +95,6 @@ fn edges_next<'a>(graph: &'a Graph, ready: &'a Ready, dir: Number) -> &'a [Numbe
     }
 }
 
-/// The edges of a directory after an event.
-fn edges_after<'a>(
-    graph: &'a Graph,
-    event: &Event,
-    edges: &'a Option<NewEdges>,
-    dir: Number,
-) -> &'a [Number]
-    ensures { result.now ≡ edges_after event.now edges.now graph.now dir }
-{
-    match event {
-        Event::Smkdir { .. } | Event::Setq { .. } | Event::Mark(_) | Event::Mv { .. } => {
-            edges_with(graph, edges, dir)
-        }
-        Event::Unq { dir: bared } | Event::Rmdir { dir: bared } => {
-            edges_without(graph, *bared, dir)
-        }
-        _ => graph.edges(dir),
-    }
-}
-
-/// The edges of a directory once the new ones are set, if there are any.
-fn edges_with<'a>(graph: &'a Graph, edges: &'a Option<NewEdges>, dir: Number) -> &'a [Number]
-    ensures { result.now ≡ edges_with graph.now edges.now dir }
-{
-    match edges {
-        Some(new) if new.dir == dir => new.edges.as_slice(),
-        _ => graph.edges(dir),
-    }
-}
-
-/// The edges of a directory once one has none.
-fn edges_without(graph: &Graph, bared: Number, dir: Number) -> &[Number]
-    ensures { result.now ≡ replaced (edges_of graph.now) bared [] dir }
-{
-    if dir == bared { &[] } else { graph.edges(dir) }
-}
-
 /// The cone of some directories after all that is ready.
 fn cone_next(
     alloc: Global,
@@ -151,47 +110,6 @@ fn cone_next(
         Ready::Change { event, edges, .. } => cone_after(alloc, graph, event, edges, dirs),
         _ => graph.cone(dirs, None),
     }
-}
-
-/// The cone of some directories after an event.
-fn cone_after(
-    alloc: Global,
-    graph: &Graph,
-    event: &Event,
-    edges: &Option<NewEdges>,
-    dirs: &[Number],
-) -> Result<Vec<Number>, Memory>
-    requires { NeverReturns (edges_after event.now edges.now graph.now) }
-    ensures { IfOk result (λ numbers.
-        IsCone (edges_after event.now edges.now graph.now) dirs.now numbers.items) }
-{
-    match event {
-        Event::Smkdir { .. } | Event::Setq { .. } | Event::Mark(_) | Event::Mv { .. } => {
-            graph.cone(dirs, edges.as_ref())
-        }
-        Event::Unq { dir: bared } | Event::Rmdir { dir: bared } => {
-            cone_without(alloc, graph, *bared, dirs)
-        }
-        _ => graph.cone(dirs, None),
-    }
-}
-
-/// The cone of some directories once one has no edges.
-fn cone_without(
-    alloc: Global,
-    graph: &Graph,
-    bared: Number,
-    dirs: &[Number],
-) -> Result<Vec<Number>, Memory>
-    requires { NeverReturns (replaced (edges_of graph.now) bared []) }
-    ensures { IfOk result (λ numbers.
-        IsCone (replaced (edges_of graph.now) bared []) dirs.now numbers.items) }
-{
-    let none = NewEdges {
-        dir: bared,
-        edges: Vec::new(alloc),
-    };
-    graph.cone(dirs, Some(&none))
 }
 
 /// The query of a directory after all that is ready.
@@ -249,42 +167,6 @@ fn mark_next(marks: &Links, ready: &Ready, dir: Number, item: Number) -> Kind
     }
 }
 
-/// The mark of an item in a directory after an event.
-fn mark_after(marks: &Links, event: &Event, dir: Number, item: Number) -> Kind
-    ensures { result ≡ mark_after event.now marks.now dir item }
-{
-    match event {
-        Event::Mark(mark) => mark_with(marks, mark, dir, item),
-        Event::Unq { dir: bared } | Event::Rmdir { dir: bared } => {
-            mark_without(marks, *bared, dir, item)
-        }
-        _ => marks.kind(dir, item),
-    }
-}
-
-/// The mark of an item in a directory once a mark is set.
-fn mark_with(marks: &Links, mark: &Mark, dir: Number, item: Number) -> Kind
-    ensures { result ≡ if dir == mark.now.dir && item == mark.now.item then mark.now.kind
-        else kind_at marks.now dir item }
-{
-    if dir == mark.dir && item == mark.item {
-        mark.kind
-    } else {
-        marks.kind(dir, item)
-    }
-}
-
-/// The mark of an item in a directory once one directory has none.
-fn mark_without(marks: &Links, bared: Number, dir: Number, item: Number) -> Kind
-    ensures { result ≡ if dir == bared then Kind.Unlinked else kind_at marks.now dir item }
-{
-    if dir == bared {
-        Kind::Unlinked
-    } else {
-        marks.kind(dir, item)
-    }
-}
-
 /// The answers of a mount after all that is ready.
 fn answers_next<'a>(answers: &'a Answers, ready: &'a Ready, mount: Number) -> &'a [Answer]
     ensures { result.now ≡ answers_next ready.now answers.now mount }
@@ -292,28 +174,5 @@ fn answers_next<'a>(answers: &'a Answers, ready: &'a Ready, mount: Number) -> &'
     match ready {
         Ready::Change { event, .. } => answers_after(answers, event, mount),
         _ => answers.kept_by(mount),
-    }
-}
-
-/// The answers of a mount after an event.
-fn answers_after<'a>(answers: &'a Answers, event: &Event, mount: Number) -> &'a [Answer]
-    ensures { result.now ≡ answers_after event.now answers.now mount }
-{
-    match event {
-        Event::Smkdir { .. } | Event::Setq { .. } => answers.told_to(mount),
-        Event::Smount { .. } | Event::Ssync { .. } => answers.put_for(mount),
-        Event::Sumount { mount: gone } => answers_without(answers, *gone, mount),
-        _ => answers.kept_by(mount),
-    }
-}
-
-/// The answers of a mount once one mount keeps none.
-fn answers_without(answers: &Answers, gone: Number, mount: Number) -> &[Answer]
-    ensures { result.now ≡ put_at (answers_kept answers.now) gone [] mount }
-{
-    if mount == gone {
-        &[]
-    } else {
-        answers.kept_by(mount)
     }
 }

@@ -1,45 +1,13 @@
-//! What a semantic directory depends on, and whether one would come to depend on itself.
-ghost use Rattle.std.specs.Prelude.{◌≡◌, ◌++◌, ◌∷◌, IfOk, OnOk};
-ghost use Rattle.hac_model.specs.Tree.Depends.{cycle_of_mark, cycle_of_move, cycle_over, named_in};
+//! Whether a semantic directory would come to depend on itself.
+ghost use Rattle.std.specs.Prelude.{◌≡◌, IfOk};
+ghost use Rattle.hac_model.specs.Tree.Depends.{cycle_of_mark, cycle_of_move, cycle_over};
 ghost use Rattle.hac_model.specs.Tree.Links.{parent_of};
 ghost use Rattle.kept_state.specs.Parts.{IsLinked, state_of};
 
 use crate::parts::Parts;
-use hac_model::{Mark, Memory, Node, Number, Query};
+use hac_model::{Mark, Memory, Number, Query};
+use kept_facts::edges_of;
 use std::alloc::Global;
-
-/// The edges of a directory with a parent and a query, to which these directories were added: to
-/// the parent, then to those that the query names, then to these.
-pub fn edges_of(
-    alloc: Global,
-    parent: Number,
-    query: &Query<Number>,
-    lenders: &[Number],
-) -> Result<Vec<Number>, Memory>
-    ensures { IfOk result (λ edges. edges.items ≡ parent ∷ named_in query.now ++ lenders.now) }
-{
-    let mut edges = Vec::new(alloc);
-    edges.push(parent)?;
-    push_named(&mut edges, query)?;
-    edges.extend_from_slice(lenders)?;
-    Ok(edges)
-}
-
-/// Adds the directories that a query names, in its order. It goes down as deep as the query does.
-pub fn push_named(dirs: &mut Vec<Number>, query: &Query<Number>) -> Result<(), Memory>
-    ensures { OnOk result (dirs.new.items ≡ dirs.old.items ++ named_in query.now) }
-{
-    match &query.node {
-        Node::Term(_) => {}
-        Node::Dir(dir) => dirs.push(*dir)?,
-        Node::Not(query) => push_named(dirs, query)?,
-        Node::And(left, right) | Node::Or(left, right) => {
-            push_named(dirs, left)?;
-            push_named(dirs, right)?;
-        }
-    }
-    Ok(())
-}
 
 /// The directory through which one would depend on itself that gets a query, if there is any.
 pub fn cycle_of_query(

@@ -15,23 +15,23 @@ ghost use Rattle.hac_model.specs.Tree.Sessions.{sessions_with, stands_in, visito
 ghost use Rattle.hac_model.specs.Tree.Valid.{IsValid};
 ghost use Rattle.hac_model.specs.Tree.Events.{is_placed};
 ghost use Rattle.file_tree.specs.Answers.{numbers_of};
+ghost use Rattle.kept_facts.specs.AnswersKept.{list_at};
 ghost use Rattle.kept_state.specs.Gains.{AreGainsOf};
 ghost use Rattle.hac_model.specs.declared.states.State.{State};
-ghost use Rattle.kept_state.specs.AnswersKept.{list_at};
 ghost use Rattle.kept_state.specs.Readers.{AreEdgesOf, AreMarksOf, ArePartsOf, IsTreeOf};
 ghost use Rattle.kept_state.specs.Readers.{mark_at};
 
-use crate::answers::{Answers, Lists, had};
-use crate::gains::{Gains, gained};
+use crate::gains::gained;
 use crate::parts::Parts;
 use crate::ready::{Ready, prepare, put};
-use crate::terms::{terms_to_ask, unanswered};
-use crate::{edges, lenders, room, sessions};
+use crate::terms::terms_to_ask;
+use crate::{edges, lenders, room};
 use dep_graph::Graph;
 use file_tree::Tree;
 use hac_model::{
     Answer, Counts, Event, Kind, Mark, Memory, Name, Number, Path, Query, Seq, Term, Version,
 };
+use kept_facts::{Answers, Gains, Lists, had, sessions, unanswered};
 use link_kinds::Links;
 use std::alloc::Global;
 use std::marker::Model;

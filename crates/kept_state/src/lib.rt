@@ -5,7 +5,6 @@
 #![tactic(auto)]
 
 mod after;
-mod answers;
 mod edges;
 mod forgetting;
 mod gains;
@@ -14,11 +13,6 @@ mod lenders;
 mod parts;
 mod ready;
 mod room;
-mod sessions;
 mod terms;
 
-pub use answers::{Lists, is_among, is_answered};
-pub use edges::{edges_of, push_named};
-pub use gains::Gains;
 pub use kept::KeptState;
-pub use terms::ordered_terms;

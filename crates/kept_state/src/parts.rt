@@ -9,14 +9,14 @@ ghost use Rattle.kept_state.specs.Parts.{AreAlike, AreEdges, IsLinked, KeepsTree
 ghost use Rattle.kept_state.specs.Parts.{edges_marked, edges_then, state_of};
 ghost use Rattle.kept_state.specs.Ready.{AnswersReady, GainsReady};
 
-use crate::answers::Answers;
-use crate::edges::edges_of;
 use crate::gains::gained;
-use crate::lenders::{lenders, marked};
-use crate::terms::{answers_to, terms_to_ask};
+use crate::lenders::lenders;
+use crate::terms::terms_to_ask;
 use dep_graph::{Graph, NewEdges};
 use file_tree::Tree;
 use hac_model::{Mark, Memory, Number, Query, Seq, Session, Version};
+use kept_facts::lenders::marked;
+use kept_facts::{Answers, answers_to, edges_of};
 use link_kinds::Links;
 use std::alloc::Global;
 

@@ -1,5 +1,5 @@
 -- A reader at the limit of a script, and a reader that has taken one more piece.
-use Rattle.std.proofs.Common.{◌≡◌, ℕ, ◌+◌, ◌-◌, ◌<◌, ◌≤◌, Bool, true, false, List, ◌++◌, length, refl, ap, sym, ◌∙◌, arith, rules, append_assoc, length-append, subst, Option, Some, None}
+use Rattle.std.proofs.Common.{◌≡◌, ℕ, ◌+◌, ◌-◌, ◌<◌, ◌≤◌, Bool, true, false, cond, List, ◌++◌, length, refl, ap, sym, ◌∙◌, arith, rules, append_assoc, length-append, subst, Option, Some, None}
 use Rattle.std.proofs.lemmas.Bool.{eqb-true}
 use Rattle.std.specs.Prelude.{max, nat_eq, position, not}
 use Rattle.std.proofs.lemmas.List.Folds.{prefix_len-append}
@@ -14,6 +14,10 @@ use Rattle.line_reader.specs.Reading.{Reading, IsReading, IsUnended, IsReaderOf,
 use Rattle.line_reader.specs.Pieces.{IsPastLimit}
 use Rattle.hac_model.proofs.JoinLemmas.{position-ended}
 use Rattle.hac_model.proofs.PrefixLemmas.{unended-take, position-none}
+
+-- how much there may be to read yet: a read takes a byte, or ends the source
+abbrev pub reads_left : Reading → ℕ
+reads_left reading = (SCRIPT_LIMIT + 1 - reading.taken) + cond reading.ended 0 1
 
 -- a source that was read beyond the limit has not ended
 not_ended : (ended : Bool) (taken : ℕ) → (ended ≡ true → taken ≤ SCRIPT_LIMIT) → SCRIPT_LIMIT < taken → ended ≡ false

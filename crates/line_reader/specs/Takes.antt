@@ -1,12 +1,12 @@
 -- What a reader gives of the bytes that follow a line.
-use Rattle.std.specs.Prelude.{◌≡◌, ℕ, ◌+◌, ◌-◌, ◌<◌, ◌≤◌, Bool, true, false, List, [], ◌++◌, length, drop}
+use Rattle.std.specs.Prelude.{◌≡◌, ℕ, ◌+◌, ◌-◌, ◌<◌, ◌≤◌, Bool, true, false, List, [], ◌++◌, length, drop, Result, IfOk, IfErr}
 use Rattle.hac_model.specs.Script.Puts.{came}
 use Rattle.hac_model.specs.declared.limits.TheConstants.{SCRIPT_LIMIT, TEXT_LIMIT}
 use Rattle.hac_model.specs.declared.taken.Taken.{Taken}
 use Rattle.hac_model.specs.declared.taken.Taken.TheVariants.{Whole, Dropped, Short}
 use Rattle.hac_outside.specs.Known.{Known}
 use Rattle.hac_outside.specs.Seen.{SourceSeen}
-use Rattle.line_reader.specs.Reading.{Reading, given, pending, piece_size, IsReaderBehind}
+use Rattle.line_reader.specs.Reading.{Reading, given, pending, piece_size, IsReaderBehind, LeavesReader}
 use Rattle.line_reader.specs.declared.reading.LineFault.{LineFault}
 use Rattle.line_reader.specs.declared.reading.LineFault.TheVariants.{Memory}
 
@@ -51,3 +51,12 @@ pub record Misses (fault : LineFault) (count : ℕ) (new : Reading) (bytes left 
 pub record FallsShort (fault : LineFault) (count : ℕ) (old new : Reading) (before after : SourceSeen) : Type 0 where
   pub bytes : Known (Misses fault count new) (pending old before.left) after.left
   pub source : IsReaderBehind count new after
+
+-- The bytes that a line asks for are given, or a fault came before, which loses no byte that a text may have. Bytes that are
+-- buffered are given without a read, so a fault comes only where some are missing.
+pub record TakesPut {S : Type 0} (seen : S → SourceSeen) (asked : ℕ) (old new : Reading) (before after : S)
+    (result : Result Taken LineFault) : Type 0 where
+  pub given : IfOk result (λ taken. GivesPut taken asked old new (seen before) (seen after))
+  pub fault : IfErr result (λ fault. FallsShort fault asked old new (seen before) (seen after))
+  pub unread : asked ≤ within old → after ≡ before
+  pub leaves : LeavesReader result old new (seen before) (seen after)

@@ -18,7 +18,7 @@ use Rattle.hac_model.proofs.TreeLemmas.{entry_at-behind}
 use Rattle.dep_graph.specs.Graphs.{edges_of, replaced}
 use Rattle.dep_graph.specs.Graphs as graph
 use Rattle.file_tree.proofs.ShapeLemmas.{same-or-not}
-use Rattle.kept_state.specs.AnswersKept.{list_at}
+use Rattle.kept_facts.specs.AnswersKept.{list_at}
 use Rattle.layout_check.specs.Rising.{DoRise}
 use Rattle.link_kinds.specs.Kinds.{Lists, no_lists}
 use Rattle.link_kinds.specs.Seen.{ChangesDir, Known, has_sets, lists_in}

@@ -11,7 +11,7 @@ use Rattle.hac_model.specs.declared.states.Body.TheVariants.{File, Dir, Symlink,
 use Rattle.hac_model.specs.declared.states.Entry.{Entry}
 use Rattle.hac_model.specs.declared.states.State.{State}
 use Rattle.hac_model.proofs.FactLemmas.{edges-told}
-use Rattle.kept_state.specs.AnswersKept.{list_at}
+use Rattle.kept_facts.specs.AnswersKept.{list_at}
 use Rattle.kept_state.specs.Readers.{ArePartsOf}
 use Rattle.kept_state.proofs.AnswerLemmas.{answers-fact}
 use Rattle.kept_state.proofs.KeptLemmas.{permanent-fact}

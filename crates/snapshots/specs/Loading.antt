@@ -10,7 +10,7 @@ use Rattle.hac_model.specs.declared.marks.Kind.{Kind}
 use Rattle.hac_model.specs.declared.states.Body.{Body}
 use Rattle.hac_model.specs.declared.states.Entry.{Entry}
 use Rattle.dep_graph.specs.Graphs.{edges_of}
-use Rattle.kept_state.specs.AnswersKept.{list_at}
+use Rattle.kept_facts.specs.AnswersKept.{list_at}
 use Rattle.link_kinds.specs.Kinds.{Lists, with_kind}
 use Rattle.link_kinds.specs.Seen.{has_sets, lists_in}
 use Rattle.snapshots.specs.declared.loading.Beside.{Beside}

@@ -12,7 +12,7 @@ use crate::finding::is_document_of;
 use crate::rising::{do_rise, do_terms_rise};
 use hac_model::{Answer, Body, Entry, Node, Number, QUERY_LIMIT, Query, State, Term, Version};
 use hac_words::is_word;
-use kept_state::is_answered;
+use kept_facts::is_answered;
 
 /// Whether each mount has no more documents than it may, and its answers are sound.
 pub(crate) fn do_keep_well(state: &State) -> bool

@@ -12,7 +12,7 @@ ghost use Rattle.layout_check.specs.Rising.{DoRise};
 use crate::finding::{can_be_added, is_item};
 use crate::rising::do_rise;
 use hac_model::{Body, Entry, Node, Number, Query, State};
-use kept_state::is_among;
+use kept_facts::is_among;
 use layout_check::is_directory_at;
 use query_text::is_query;
 

@@ -9,7 +9,7 @@ ghost use Rattle.state_check.specs.Edges.{edges_put};
 
 use dep_graph::Graph;
 use hac_model::{Body, Entry, Memory, Number, State};
-use kept_state::edges_of;
+use kept_facts::edges_of;
 use layout_check::is_directory_at;
 use std::alloc::Global;
 

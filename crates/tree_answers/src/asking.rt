@@ -9,7 +9,8 @@ ghost use Rattle.tree_answers.specs.Asked.{mount_of, questions, questions_about,
 use crate::lookups::is_mount;
 use crate::numbering;
 use hac_model::{Memory, Name, Number, Query, Seq, Term};
-use kept_state::{KeptState, ordered_terms};
+use kept_facts::ordered_terms;
+use kept_state::KeptState;
 use std::alloc::Global;
 
 /// A question to the space of a mount, whether its documents have a term.

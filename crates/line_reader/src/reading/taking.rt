@@ -1,9 +1,9 @@
 //! The bytes that follow a line, in whatever pieces the stream comes.
 ghost use Rattle.std.specs.Prelude.{◌≡◌, ◌+◌, ◌<◌, ◌≤◌, false, length, min, take, drop, IfOk};
-ghost use Rattle.std.specs.Prelude.{IfErr, OnOk, OnErr, IsErrOf};
+ghost use Rattle.std.specs.Prelude.{OnOk, OnErr, IsErrOf};
 ghost use Rattle.hac_model.specs.declared.taken.Taken.TheVariants.{Whole};
-ghost use Rattle.line_reader.specs.Reading.{IsReading, IsReaderBehind, LeavesReader};
-ghost use Rattle.line_reader.specs.Takes.{GivesPut, FallsShort, within};
+ghost use Rattle.line_reader.specs.Reading.{IsReading, IsReaderBehind};
+ghost use Rattle.line_reader.specs.Takes.{TakesPut, within};
 
 use super::{LineFault, Reader};
 use hac_model::{SCRIPT_LIMIT, TEXT_LIMIT, Taken, Text};
@@ -17,18 +17,7 @@ impl Reader {
         // The line that asks for the bytes was given, or a fault came and they are asked for again.
         requires { IsReaderBehind asked self.old (S.seen source.old) }
 
-        ensures given { IfOk result (λ taken. GivesPut taken asked self.old self.new
-            (S.seen source.old) (S.seen source.new)) }
-
-        // A fault loses no byte that a text may have.
-        ensures fault { IfErr result (λ fault. FallsShort fault asked self.old self.new
-            (S.seen source.old) (S.seen source.new)) }
-
-        // Bytes that are buffered are given without a read, so a fault comes only where some are
-        // missing.
-        ensures unread { asked ≤ within self.old → source.new ≡ source.old }
-        ensures leaves { LeavesReader result self.old self.new (S.seen source.old)
-            (S.seen source.new) }
+        ensures { TakesPut S.seen asked self.old self.new source.old source.new result }
     {
         if asked > TEXT_LIMIT {
             self.drop_put(source, asked)
@@ -41,13 +30,7 @@ impl Reader {
     fn keep_put<S: Source>(&mut self, source: &mut S, asked: u64) -> Result<Taken, LineFault>
         requires source { IsReaderBehind asked self.old (S.seen source.old) }
         requires few { asked ≤ TEXT_LIMIT }
-        ensures given { IfOk result (λ taken. GivesPut taken asked self.old self.new
-            (S.seen source.old) (S.seen source.new)) }
-        ensures fault { IfErr result (λ fault. FallsShort fault asked self.old self.new
-            (S.seen source.old) (S.seen source.new)) }
-        ensures unread { asked ≤ within self.old → source.new ≡ source.old }
-        ensures leaves { LeavesReader result self.old self.new (S.seen source.old)
-            (S.seen source.new) }
+        ensures { TakesPut S.seen asked self.old self.new source.old source.new result }
     {
         'bytes: loop {
             if asked <= self.within() as u64 {
@@ -65,13 +48,7 @@ impl Reader {
     fn drop_put<S: Source>(&mut self, source: &mut S, asked: u64) -> Result<Taken, LineFault>
         requires source { IsReaderBehind asked self.old (S.seen source.old) }
         requires many { TEXT_LIMIT < asked }
-        ensures given { IfOk result (λ taken. GivesPut taken asked self.old self.new
-            (S.seen source.old) (S.seen source.new)) }
-        ensures fault { IfErr result (λ fault. FallsShort fault asked self.old self.new
-            (S.seen source.old) (S.seen source.new)) }
-        ensures unread { asked ≤ within self.old → source.new ≡ source.old }
-        ensures leaves { LeavesReader result self.old self.new (S.seen source.old)
-            (S.seen source.new) }
+        ensures { TakesPut S.seen asked self.old self.new source.old source.new result }
     {
         let mut due = asked;
         'bytes: loop {

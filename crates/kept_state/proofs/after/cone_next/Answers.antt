@@ -1,7 +1,8 @@
 use Rattle.std.proofs.Common.{◌≡◌, ℕ, List, subst, rules}
 use Rattle.hac_model.specs.Tree.Depends.{NeverReturns}
 use Rattle.dep_graph.specs.Graphs.{edges_of}
-use Rattle.kept_state.specs.After.{edges_after, edges_next}
+use Rattle.kept_facts.specs.After.{edges_after}
+use Rattle.kept_state.specs.After.{edges_next}
 use Rattle.kept_state.proofs.after.cone_next.Goals as goal
 
 pub cone_after-requires : goal.cone_after-requires

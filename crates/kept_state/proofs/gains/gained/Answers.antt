@@ -1,7 +1,7 @@
 use Rattle.std.proofs.Common.{◌≡◌, ◌∙◌, ℕ, List, [], ap, sym}
 use Rattle.hac_model.specs.Tree.Asking.{gained, with_answers}
 use Rattle.hac_model.specs.declared.states.Answer.{Answer}
-use Rattle.kept_state.specs.Answers.{answers_kept}
+use Rattle.kept_facts.specs.Answers.{answers_kept}
 use Rattle.kept_state.proofs.GainLemmas.{gained-untold, none-told}
 use Rattle.kept_state.proofs.gains.gained.Goals as goal
 

@@ -4,7 +4,7 @@ use Rattle.std.specs.Map.{lookup}
 use Rattle.std.proofs.lemmas.List.{nil_from_length}
 use Rattle.hac_model.specs.declared.states.Answer.{Answer}
 use Rattle.file_tree.proofs.LiveLemmas.{through-begins, through-ends, through-goes, through-here}
-use Rattle.kept_state.specs.AnswersKept.{list_at}
+use Rattle.kept_facts.specs.AnswersKept.{list_at}
 use Rattle.kept_state.proofs.GainLemmas.{IsGaining, gaining-begins, gaining-ends, gaining-enough, gaining-goes, gaining-passes}
 use Rattle.kept_state.proofs.gains.lists_then.Goals as goal
 

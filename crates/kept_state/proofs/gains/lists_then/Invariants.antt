@@ -1,5 +1,5 @@
 use Rattle.file_tree.proofs.LiveLemmas.{IsThrough}
-use Rattle.kept_state.specs.AnswersKept.{list_at}
+use Rattle.kept_facts.specs.AnswersKept.{list_at}
 use Rattle.kept_state.proofs.GainLemmas.{IsGaining}
 use Rattle.kept_state.proofs.gains.lists_then.Given as goal
 

@@ -5,11 +5,12 @@ use Rattle.hac_model.specs.Tree.Mounting.{answers_to}
 use Rattle.hac_model.specs.Tree.Valid.{TermsRise}
 use Rattle.hac_model.specs.declared.states.Answer.{Answer}
 use Rattle.hac_model.specs.declared.terms.Term.{Term}
-use Rattle.kept_state.specs.Answers.{answers_kept}
-use Rattle.kept_state.specs.AnswersKept.{list_at}
+use Rattle.kept_facts.specs.Answers.{answers_kept}
+use Rattle.kept_facts.specs.AnswersKept.{list_at}
+use Rattle.kept_facts.proofs.GainLemmas.{answers-taken}
 use Rattle.kept_state.specs.Gains.{asked_at}
 use Rattle.kept_state.proofs.AnswerLemmas.{kept-order}
-use Rattle.kept_state.proofs.GainLemmas.{answers-taken, mount-asked, nothing-put}
+use Rattle.kept_state.proofs.GainLemmas.{mount-asked, nothing-put}
 use Rattle.kept_state.proofs.gains.put_gain.Goals as goal
 
 pub returns-then-not-is_mount-clause-lists : goal.returns-then-not-is_mount-clause-lists

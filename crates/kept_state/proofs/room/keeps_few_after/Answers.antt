@@ -1,8 +1,8 @@
 use Rattle.std.proofs.Common.{◌≡◌, Bool, IfOk, [], ap, subst, sym, ◌∙◌}
+use Rattle.kept_facts.specs.Room.{AreKept, are_few_then}
+use Rattle.kept_facts.proofs.FewLemmas.{few-asking, few-mounting, few-semantic, few-syncing, few-untold, kept-answers_at}
 use Rattle.kept_state.specs.Parts.{state_of}
-use Rattle.kept_state.specs.Room.{AreKept, are_few_then}
 use Rattle.kept_state.proofs.AnswerLemmas.{kept-answers}
-use Rattle.kept_state.proofs.FewLemmas.{few-asking, few-mounting, few-semantic, few-syncing, few-untold, kept-answers_at}
 use Rattle.kept_state.proofs.room.keeps_few_after.Goals as goal
 
 pub has_room-requires-in-Ssync-clause-kept : goal.has_room-requires-in-Ssync-clause-kept

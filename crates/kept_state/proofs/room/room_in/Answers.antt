@@ -4,11 +4,11 @@ use Rattle.hac_model.specs.Tree.Links.{answers_at}
 use Rattle.hac_model.specs.declared.limits.TheConstants.{ANSWERS_LIMIT, PAIRS_LIMIT}
 use Rattle.hac_model.specs.declared.states.Answer.{Answer}
 use Rattle.file_tree.proofs.LiveLemmas.{through-begins, through-ends, through-goes, through-here}
+use Rattle.kept_facts.specs.Room.{IsLess, documents_in}
+use Rattle.kept_facts.specs.declared.room.Room.{Room}
+use Rattle.kept_facts.proofs.FewLemmas.{IsTaking, taking-answers, taking-begins, taking-documents, taking-ends, taking-goes, taking-passes}
 use Rattle.kept_state.specs.Parts.{state_of}
-use Rattle.kept_state.specs.Room.{IsLess, documents_in}
-use Rattle.kept_state.specs.declared.room.Room.{Room}
 use Rattle.kept_state.proofs.AnswerLemmas.{kept-answers}
-use Rattle.kept_state.proofs.FewLemmas.{IsTaking, taking-answers, taking-begins, taking-documents, taking-ends, taking-goes, taking-passes}
 use Rattle.kept_state.proofs.GainLemmas.{absent-none}
 use Rattle.kept_state.proofs.room.room_in.Goals as goal
 

@@ -1,6 +1,6 @@
 use Rattle.file_tree.proofs.LiveLemmas.{IsThrough}
+use Rattle.kept_facts.proofs.FewLemmas.{IsTaking}
 use Rattle.kept_state.specs.Parts.{state_of}
-use Rattle.kept_state.proofs.FewLemmas.{IsTaking}
 use Rattle.kept_state.proofs.room.room_in.Given as goal
 
 abbrev pub invariant-entries : goal.invariant-entries

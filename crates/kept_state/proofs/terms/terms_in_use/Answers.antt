@@ -5,7 +5,7 @@ use Rattle.hac_model.specs.declared.states.Entry.{Entry}
 use Rattle.hac_model.specs.declared.states.State.{State}
 use Rattle.hac_model.specs.declared.terms.Term.{Term}
 use Rattle.file_tree.proofs.LiveLemmas.{through-begins, through-ends, through-goes, through-here}
-use Rattle.kept_state.proofs.UseLemmas.{rest-all, rest-none, rest_from, taken, untaken}
+use Rattle.kept_facts.proofs.UseLemmas.{rest-all, rest-none, rest_from, taken, untaken}
 use Rattle.kept_state.proofs.terms.terms_in_use.Goals as goal
 
 -- these terms were taken, and those of the entries from a number on are left

@@ -2,7 +2,7 @@ use Rattle.std.proofs.Common.{List, ℕ, subst, sym}
 use Rattle.std.specs.Prelude.{IsTrue, Option}
 use Rattle.hac_model.specs.Tree.Asking.{are_all_told}
 use Rattle.hac_model.specs.declared.states.Answer.{Answer}
-use Rattle.kept_state.specs.AnswersKept.{told_of}
+use Rattle.kept_facts.specs.AnswersKept.{told_of}
 use Rattle.kept_state.specs.Gains.{AreGainsOf}
 use Rattle.kept_state.specs.Parts.{state_of}
 use Rattle.kept_state.specs.Seen.{Seen}

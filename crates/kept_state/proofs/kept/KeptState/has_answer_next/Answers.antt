@@ -3,8 +3,8 @@ use Rattle.std.specs.Prelude.{unwrap_or}
 use Rattle.hac_model.specs.Tree.Links.{has, kept_at}
 use Rattle.hac_model.specs.Tree.Mounts.{kept_for}
 use Rattle.hac_model.specs.declared.states.Answer.{Answer}
+use Rattle.kept_facts.specs.Answers.{AreInOrder}
 use Rattle.kept_state.specs.After.{answers_next, next_state}
-use Rattle.kept_state.specs.Answers.{AreInOrder}
 use Rattle.kept_state.specs.Seen.{Seen}
 use Rattle.kept_state.proofs.AfterLemmas.{next-has, next-order}
 use Rattle.kept_state.proofs.kept.KeptState.has_answer_next.Goals as goal

@@ -3,7 +3,7 @@ use Rattle.std.specs.Prelude.{unwrap_or}
 use Rattle.hac_model.specs.Tree.Links.{answers_at, has}
 use Rattle.hac_model.specs.Tree.Mounts.{kept_for}
 use Rattle.hac_model.specs.declared.states.Answer.{Answer}
-use Rattle.kept_state.specs.Answers.{AreInOrder, answers_with}
+use Rattle.kept_facts.specs.Answers.{AreInOrder, answers_with}
 use Rattle.kept_state.specs.Seen.{Seen}
 use Rattle.kept_state.proofs.AnswerLemmas.{kept-answers}
 use Rattle.kept_state.proofs.ToldLemmas.{gains-at}

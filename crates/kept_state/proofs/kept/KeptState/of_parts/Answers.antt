@@ -1,8 +1,8 @@
 use Rattle.std.proofs.Common.{◌≡◌, ℕ, List, [], ap, sym, subst, ◌∙◌}
 use Rattle.hac_model.specs.declared.states.Answer.{Answer}
 use Rattle.hac_model.specs.declared.states.State.{State}
-use Rattle.kept_state.specs.Answers.{answers_kept}
-use Rattle.kept_state.specs.AnswersKept.{list_at}
+use Rattle.kept_facts.specs.Answers.{answers_kept}
+use Rattle.kept_facts.specs.AnswersKept.{list_at}
 use Rattle.kept_state.specs.Readers.{ArePartsOf}
 use Rattle.kept_state.specs.declared.parts.Parts.{Parts}
 use Rattle.kept_state.proofs.PartsLemmas.{parts-linked, parts-state}

@@ -1,7 +1,7 @@
 use Rattle.std.proofs.Common.{◌≡◌, ℕ, List, subst, sym}
 use Rattle.std.specs.Prelude.{Option}
 use Rattle.hac_model.specs.declared.states.Answer.{Answer}
-use Rattle.kept_state.specs.Answers.{answers_kept}
+use Rattle.kept_facts.specs.Answers.{answers_kept}
 use Rattle.kept_state.specs.Gains.{AreGains}
 use Rattle.kept_state.proofs.parts.Parts.prepare_gains.Goals as goal
 

@@ -1,6 +1,6 @@
-use Rattle.std.proofs.Common.{◌≡◌, ◌<◌, ◌≤◌, ◌+◌, ◌-◌, cond}
-use Rattle.hac_model.specs.declared.limits.TheConstants.{SCRIPT_LIMIT}
+use Rattle.std.proofs.Common.{◌≡◌, ◌<◌, ◌≤◌}
 use Rattle.line_reader.specs.Takes.{within}
+use Rattle.line_reader.proofs.ReaderLemmas.{reads_left}
 use Rattle.line_reader.proofs.TakeLemmas.{DropsOn}
 use Rattle.line_reader.proofs.reading.Reader.drop_put.Given as goal
 
@@ -15,6 +15,5 @@ invariant-bytes g l =
       faults : (seen l.source).faults ≡ (seen l.fn.source).faults;
     }
 
--- a read takes a byte, or ends the source
 abbrev pub decreases-bytes : goal.decreases-bytes
-decreases-bytes g l = (SCRIPT_LIMIT + 1 - l.self.taken) + cond l.self.ended 0 1
+decreases-bytes g l = reads_left l.self

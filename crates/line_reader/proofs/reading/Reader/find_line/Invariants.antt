@@ -1,7 +1,7 @@
-use Rattle.std.proofs.Common.{◌≡◌, true, ◌+◌, ◌-◌, cond}
-use Rattle.hac_model.specs.declared.limits.TheConstants.{SCRIPT_LIMIT}
+use Rattle.std.proofs.Common.{◌≡◌, true}
 use Rattle.hac_model.specs.Script.{is_first_ended}
 use Rattle.line_reader.specs.Reading.{IsReaderOf, ReadsOn}
+use Rattle.line_reader.proofs.ReaderLemmas.{reads_left}
 use Rattle.line_reader.proofs.reading.Reader.find_line.Given as goal
 
 -- only reading was done, and no read failed
@@ -15,6 +15,5 @@ invariant-loop-found g l =
       faults : (seen l.source).faults ≡ (seen l.fn.source).faults;
     }
 
--- a read takes a byte, or ends the source
 abbrev pub decreases-loop-found : goal.decreases-loop-found
-decreases-loop-found g l = (SCRIPT_LIMIT + 1 - l.self.taken) + cond l.self.ended 0 1
+decreases-loop-found g l = reads_left l.self

@@ -1,9 +1,0 @@
-use Rattle.std.proofs.Common.{vec_len}
-use Rattle.kept_state.proofs.UseLemmas.{IsOrdering}
-use Rattle.kept_state.proofs.terms.in_order.Given as goal
-
-abbrev pub invariant-terms : goal.invariant-terms
-invariant-terms l = IsOrdering l.fn.terms.items l.terms.items l.ordered.items
-
-abbrev pub decreases-terms : goal.decreases-terms
-decreases-terms l = vec_len l.terms
