@@ -24,8 +24,8 @@ pub fn forget_mount(marks: &mut Links, tree: &Tree, mount: Number)
     marks.drop_item(mount);
     know_layout(tree);
     let documents = tree.children(mount);
-    'documents: for document in documents {
-        marks.drop_item(*document);
+    'documents: for place in 0..documents.len() {
+        marks.drop_item(documents.at(place));
     }
 }
 
@@ -39,9 +39,10 @@ pub fn forget_gone(marks: &mut Links, tree: &Tree, mount: Number, names: &[Name]
 {
     know_layout(tree);
     let documents = tree.children(mount);
-    'documents: for document in documents {
-        if !is_among(names, tree.name_of(*document).as_bytes()) {
-            marks.drop_item(*document);
+    'documents: for place in 0..documents.len() {
+        let document = documents.at(place);
+        if !is_among(names, tree.name_of(document).as_bytes()) {
+            marks.drop_item(document);
         }
     }
 }

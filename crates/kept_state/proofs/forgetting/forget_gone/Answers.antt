@@ -1,5 +1,6 @@
-use Rattle.std.proofs.Common.{◌≡◌, ◌+◌, ◌∷◌, ◌∙◌, ℕ, Bool, List, ap, drop, subst, sym}
+use Rattle.std.proofs.Common.{◌≡◌, ◌+◌, ◌∷◌, ◌∙◌, ℕ, Bool, List, ap, drop, subst, sym, ◌<◌, arith, get_or, length}
 use Rattle.std.specs.Prelude.{not}
+use Rattle.std.proofs.lemmas.List.{get_or_default}
 use Rattle.hac_model.specs.Tree.Mounting.{is_among, is_gone, is_such_at}
 use Rattle.link_kinds.specs.Seen.{Known}
 use Rattle.kept_state.proofs.ForgetLemmas.{IsForgetting, forgets-next, forgetting-begins, forgetting-ends, gone-told, gone-within, keeps-next}
@@ -10,7 +11,7 @@ use Rattle.kept_state.proofs.forgetting.forget_gone.Goals.{then-not-is_among, el
 pub documents-init : goal.documents-init
 documents-init c =
     let s = c.args.tree.now.state in
-    forgetting-begins s c.know_layout.ensures c.args.mount (is_such_at (is_gone c.args.mount c.args.names.now) s.entries) c.children-documents.result.now c.args.marks.now c.children-documents.ensures.numbers (gone-within s c.args.mount c.args.names.now)
+    forgetting-begins s c.know_layout.ensures c.args.mount (is_such_at (is_gone c.args.mount c.args.names.now) s.entries) c.children-documents.result c.args.marks.now c.children-documents.ensures.numbers (gone-within s c.args.mount c.args.names.now)
 
 pub documents-preserved : goal.documents-preserved
 documents-preserved c =
@@ -18,10 +19,12 @@ documents-preserved c =
     let mount = c.args.mount in
     let names = c.args.names.now in
     let test : ℕ → Bool = is_such_at (is_gone mount names) s.entries in
-    let number = c.document-item.result in
-    let rest = drop (c.documents.document-index + 1) c.children-documents.result.now in
+    let number = c.at-document.result in
+    let inside : c.documents.place < length c.children-documents.result = omega arith in
+    let is : number ≡ get_or c.children-documents.result c.documents.place number = c.at-document.ensures ∙ get_or_default c.children-documents.result c.documents.place 0 number inside in
+    let rest = drop (c.documents.place + 1) c.children-documents.result in
     let before : IsForgetting s mount test (number ∷ rest) c.args.marks.now c.documents.marks =
-    subst (λ (ns : List ℕ). IsForgetting s mount test ns c.args.marks.now c.documents.marks) (drop-next c.children-documents.result.now c.documents.document-index number c.documents-test.true c.document-item.is) c.documents.invariant in
+    subst (λ (ns : List ℕ). IsForgetting s mount test ns c.args.marks.now c.documents.marks) (drop-next c.children-documents.result c.documents.place number inside is) c.documents.invariant in
     let told : test number ≡ not c.is_among.result =
     gone-told s mount names c.know_layout.ensures c.requires.mount number c.name_of.result.now before.there.0 c.name_of.ensures
     ∙ ap not (sym (c.is_among.ensures ∙ ap (is_among names) c.as_bytes.ensures)) in
@@ -40,4 +43,4 @@ returns-clause-lists c =
     let mount = c.args.mount in
     let test : ℕ → Bool = is_such_at (is_gone mount c.args.names.now) s.entries in
     forgetting-ends s mount test c.args.marks.now c.documents.marks
-    (subst (λ (ns : List ℕ). IsForgetting s mount test ns c.args.marks.now c.documents.marks) (drop-end c.children-documents.result.now c.documents.document-index c.documents-test.false) c.documents.invariant)
+    (subst (λ (ns : List ℕ). IsForgetting s mount test ns c.args.marks.now c.documents.marks) (drop-end c.children-documents.result c.documents.place (omega arith)) c.documents.invariant)

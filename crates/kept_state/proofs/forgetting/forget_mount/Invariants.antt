@@ -5,4 +5,4 @@ use Rattle.kept_state.proofs.forgetting.forget_mount.Given as goal
 
 abbrev pub invariant-documents : goal.invariant-documents
 invariant-documents l =
-    IsForgetting l.tree.state l.fn.mount (is_such_at (is_of_mount l.fn.mount) l.tree.state.entries) (drop l.document-index l.documents) l.fn.marks l.marks
+    IsForgetting l.tree.state l.fn.mount (is_such_at (is_of_mount l.fn.mount) l.tree.state.entries) (drop l.place l.documents) l.fn.marks l.marks
