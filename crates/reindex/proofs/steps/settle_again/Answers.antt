@@ -4,7 +4,7 @@ use Rattle.reeval.specs.Routes.{Covers}
 use Rattle.reeval.specs.declared.settling.Stop.{Stop}
 use Rattle.reindex.specs.Steps.{indexed_through}
 use Rattle.reindex.proofs.BatchLemmas.{settled-if}
-use Rattle.reindex.proofs.steps.settle_file.Goals as goal
+use Rattle.reindex.proofs.steps.settle_again.Goals as goal
 
 pub returns-clause-settled : goal.returns-clause-settled
 returns-clause-settled g c =
