@@ -19,13 +19,13 @@ use Rattle.hac_model.specs.Query.Words.{is_asked}
 use Rattle.hac_model.specs.declared.terms.Term.{Term}
 use Rattle.hac_model.specs.declared.terms.Term.TheVariants.{Word, Prefix}
 use Rattle.query_index.specs.Asking.{is_listed}
-use Rattle.query_index.specs.Marks.{any_below}
+use Rattle.query_index.specs.Numbers.{any_below}
 use Rattle.query_index.proofs.ListLemmas.{agree, any-either, below-any, below-at, below-none, below-some, or-false, same-back}
 
 -- ---- one term
 
 -- a word begins with letters where one of its beginnings is the letters
-begins : (word letters : List ℕ) → any_below (suc (length word)) (λ k. bytes_eq (take k word) letters) ≡ starts_with nat_eq word letters
+pub begins : (word letters : List ℕ) → any_below (suc (length word)) (λ k. bytes_eq (take k word) letters) ≡ starts_with nat_eq word letters
 begins word letters = agree (any_below (suc (length word)) (λ k. bytes_eq (take k word) letters)) (starts_with nat_eq word letters) there back
   where
     there : any_below (suc (length word)) (λ k. bytes_eq (take k word) letters) ≡ true → starts_with nat_eq word letters ≡ true

@@ -1,25 +1,28 @@
--- An index of queries: what it answers, and what one query more adds.
-use Rattle.std.proofs.Common.{◌≡◌, ℕ, zero, suc, Bool, true, false, List, [], ◌∷◌, None, Some, length, map, replicate, take, refl, ap, sym, ◌∙◌, arith}
-use Rattle.std.specs.Prelude.{◌==◌, ◌&&◌, ◌||◌, ◌++◌, not, Option, option_and_then, slice_get}
-use Rattle.std.specs.List.{list_any}
+-- An index of queries: what words meet in it, what it answers, and what one query more adds.
+use Rattle.std.proofs.Common.{◌≡◌, ℕ, zero, suc, ◌+◌, ◌<◌, Bool, true, false, List, [], ◌∷◌, None, Some, length, map, take, refl, ap, sym, ◌∙◌, arith}
+use Rattle.std.specs.Prelude.{◌==◌, ◌&&◌, ◌||◌, ◌++◌, filter, not, nat_eq, IfSome, Option, is_some, option_and_then, slice_get}
+use Rattle.std.specs.List.{list_any, starts_with}
 use Rattle.std.specs.Map.{lookup}
-use Rattle.std.specs.Option.{option_map_or}
+use Rattle.std.specs.Option.{option_map, option_map_or}
 use Rattle.std.proofs.lemmas.Bool.{eq-eqb, ne_eqb}
-use Rattle.std.proofs.lemmas.List.{length-map, map-append}
+use Rattle.std.proofs.lemmas.List.{length-append}
+use Rattle.std.proofs.lemmas.List.Folds.{list_any-append}
 use Rattle.hac_model.specs.Query.Formula.{Formula}
 use Rattle.hac_model.specs.Query.Queries.{terms_of}
 use Rattle.hac_model.specs.Query.Terms.{is_same_term}
+use Rattle.hac_model.specs.Query.Words.{is_asked}
 use Rattle.hac_model.specs.Tree.Links.{has}
+use Rattle.hac_model.specs.declared.terms.Term.{Term}
 use Rattle.hac_model.specs.declared.terms.Term.TheVariants.{Word, Prefix}
-use Rattle.query_index.specs.Asking.{asks_beyond, asks_for, asks_for_change, can_be, is_listed, may_hold}
-use Rattle.query_index.specs.Inner.{has_beginning, has_word, is_asked_at, seen_of}
-use Rattle.query_index.specs.Marks.{any_below, marked}
-use Rattle.query_index.specs.Seen.{IsIndexOf, Seen, places_of}
-use Rattle.query_index.specs.declared.index.QueryIndex.TheInside.{Inside}
-use Rattle.query_index.proofs.AskLemmas.{some-asked}
-use Rattle.query_index.proofs.ListLemmas.{and-false, and-true, any-none, below-none, or-false}
-use Rattle.query_index.proofs.MarkLemmas.{all-unmarked, eqb-suc, marked-map, marked-twice}
-use Rattle.query_index.proofs.PostingLemmas.{Letters, is_for, items_of, places-seen}
+use Rattle.query_index.specs.Asking.{asks_for, asks_for_change, can_be, is_listed, may_hold}
+use Rattle.query_index.specs.Inner.{AreMet, Meets, begins_at, has_beginning, has_word, is_at, is_under, places_in}
+use Rattle.query_index.specs.Numbers.{AddsAll, AreThose, any_below}
+use Rattle.query_index.specs.Seen.{ArePlaces, IsIndexOf, Seen, answer_of, asks_at, place_of, places_of}
+use Rattle.query_index.specs.declared.met.Met.{Met}
+use Rattle.query_index.proofs.AskLemmas.{begins, some-asked}
+use Rattle.query_index.proofs.ListLemmas.{and-false, and-true, any-either, any-filter, any-met, any-none, below-at, below-none, below-some, or-assoc, or-false, same-back}
+use Rattle.query_index.proofs.NumberLemmas.{adds-alike, adds-both, adds-none, eqb-suc}
+use Rattle.query_index.proofs.PostingLemmas.{Letters, is_for, items_of, one-there, places-seen, stands-as, stands-there}
 
 abbrev Queries : Type 0
 Queries = List (Option (Formula ℕ))
@@ -30,16 +33,6 @@ query_at queries place = option_and_then (λ query. query) (slice_get queries pl
 
 -- ---- what callers see
 
-pub asked-seen : (index : Inside) (word : List ℕ) (marks : List Bool) →
-    marked (λ place. any_below (suc (length word)) (λ len. has (items_of (lookup (is_for (take len word)) index.beginnings.entries)) place))
-    (marked (has (items_of (lookup (is_for word) index.words.entries))) marks) ≡ marked (is_asked_at (seen_of index) word) marks
-asked-seen index word marks =
-    marked-twice (has (items_of (lookup (is_for word) index.words.entries)))
-    (λ place. any_below (suc (length word)) (λ len. has (items_of (lookup (is_for (take len word)) index.beginnings.entries)) place)) marks
-    ∙ (λ i. marked
-    (λ place. has (sym (places-seen index.words.entries word) i) place
-    || any_below (suc (length word)) (λ len. has (sym (places-seen index.beginnings.entries (take len word)) i) place)) marks)
-
 pub adds-seen : (before after : List (Letters × Letters)) (test : List ℕ → Bool) (place : ℕ) →
     ((letters : List ℕ) (other : ℕ) → has (items_of (lookup (is_for letters) after)) other ≡ (has (items_of (lookup (is_for letters) before)) other || (test letters && place == other))) →
     (letters : List ℕ) (other : ℕ) →
@@ -49,7 +42,81 @@ adds-seen before after test place adds letters other =
     ∙ adds letters other
     ∙ ap (λ (places : List ℕ). has places other || (test letters && place == other)) (sym (places-seen before letters))
 
+-- ---- what words meet
+
+pub meets-none : (index : Seen) (met : Met) → Meets index [] met met
+meets-none index met = record { words = adds-none met.words.items; beginnings = adds-none met.beginnings.items }
+
+pub meets-both : (index : Seen) (these those : List (List ℕ)) (old mid new : Met) → Meets index these old mid → Meets index those mid new → Meets index (these ++ those) old new
+meets-both index these those old mid new first second = record {
+  words = adds-alike old.words.items new.words.items (λ at. list_any (λ word. is_at index.words word at) these || list_any (λ word. is_at index.words word at) those) (λ at. list_any (λ word. is_at index.words word at) (these ++ those))
+      (adds-both old.words.items mid.words.items new.words.items (λ at. list_any (λ word. is_at index.words word at) these) (λ at. list_any (λ word. is_at index.words word at) those) first.words second.words)
+      (λ at. sym (list_any-append (λ word. is_at index.words word at) these those));
+  beginnings = adds-alike old.beginnings.items new.beginnings.items (λ at. list_any (λ word. begins_at index.beginnings word at) these || list_any (λ word. begins_at index.beginnings word at) those) (λ at. list_any (λ word. begins_at index.beginnings word at) (these ++ those))
+      (adds-both old.beginnings.items mid.beginnings.items new.beginnings.items (λ at. list_any (λ word. begins_at index.beginnings word at) these) (λ at. list_any (λ word. begins_at index.beginnings word at) those) first.beginnings second.beginnings)
+      (λ at. sym (list_any-append (λ word. begins_at index.beginnings word at) these those));
+}
+
+pub meets-one : (index : Seen) (word : List ℕ) (old new : Met) → AddsAll old.words.items new.words.items (is_at index.words word) → AddsAll old.beginnings.items new.beginnings.items (begins_at index.beginnings word) → Meets index (word ∷ []) old new
+meets-one index word old new words beginnings = record {
+  words = adds-alike old.words.items new.words.items (is_at index.words word) (λ at. is_at index.words word at || false) words (λ at. sym (or-false (is_at index.words word at)));
+  beginnings = adds-alike old.beginnings.items new.beginnings.items (begins_at index.beginnings word) (λ at. begins_at index.beginnings word at || false) beginnings (λ at. sym (or-false (begins_at index.beginnings word at)));
+}
+
+-- the places of letters that were met as words are those of the words
+under-words : (entries : List (List ℕ × List ℕ)) (met : List ℕ) (words : List (List ℕ)) (place : ℕ) → ((at : ℕ) → has met at ≡ list_any (λ word. is_at entries word at) words) →
+    is_under entries met place ≡ list_any (λ word. has (places_of entries word) place) words
+under-words entries met words place those =
+    any-met (λ at. has (places_in entries at) place) (λ word at. is_at entries word at) (λ word. has (places_of entries word) place) met words those there back
+  where
+    there : (word : List ℕ) (at : ℕ) → is_at entries word at ≡ true → has (places_in entries at) place ≡ true → has (places_of entries word) place ≡ true
+    there word at stands is =
+        stands-there entries word place
+        ∙ ap (λ (o : Option ℕ). option_map_or (λ at. has (places_in entries at) place) o false) (stands-as (place_of entries word) at stands)
+        ∙ is
+
+    found : (o : Option ℕ) → option_map_or (λ at. has (places_in entries at) place) o false ≡ true → (at : ℕ) × (option_map_or (λ found. found == at) o false ≡ true) × (has (places_in entries at) place ≡ true)
+    found None is = absurd cc
+    found (Some at) is = (at, eq-eqb at at refl, is)
+
+    back : (word : List ℕ) → has (places_of entries word) place ≡ true → (at : ℕ) × (is_at entries word at ≡ true) × (has (places_in entries at) place ≡ true)
+    back word is = found (place_of entries word) (sym (stands-there entries word place) ∙ is)
+
+-- and so are those of letters that were met as beginnings
+under-beginnings : (entries : List (List ℕ × List ℕ)) (met : List ℕ) (words : List (List ℕ)) (place : ℕ) → ((at : ℕ) → has met at ≡ list_any (λ word. begins_at entries word at) words) →
+    is_under entries met place ≡ list_any (λ word. any_below (suc (length word)) (λ len. has (places_of entries (take len word)) place)) words
+under-beginnings entries met words place those =
+    any-met (λ at. has (places_in entries at) place) (λ word at. begins_at entries word at) (λ word. any_below (suc (length word)) (λ len. has (places_of entries (take len word)) place)) met words those there back
+  where
+    there : (word : List ℕ) (at : ℕ) → begins_at entries word at ≡ true → has (places_in entries at) place ≡ true → any_below (suc (length word)) (λ len. has (places_of entries (take len word)) place) ≡ true
+    there word at stands is =
+        let some = below-some (λ len. is_at entries (take len word) at) (suc (length word)) stands in
+        below-at (λ len. has (places_of entries (take len word)) place) (suc (length word)) some.0 some.1
+        (stands-there entries (take some.0 word) place
+        ∙ ap (λ (o : Option ℕ). option_map_or (λ at. has (places_in entries at) place) o false) (stands-as (place_of entries (take some.0 word)) at some.2)
+        ∙ is)
+
+    found : (word : List ℕ) (len : ℕ) → len < suc (length word) → (o : Option ℕ) → place_of entries (take len word) ≡ o → option_map_or (λ at. has (places_in entries at) place) o false ≡ true →
+        (at : ℕ) × (begins_at entries word at ≡ true) × (has (places_in entries at) place ≡ true)
+    found word len inside None same is = absurd cc
+    found word len inside (Some at) same is = (
+      at,
+      below-at (λ len. is_at entries (take len word) at) (suc (length word)) len inside
+          (ap (λ (o : Option ℕ). option_map_or (λ found. found == at) o false) same ∙ eq-eqb at at refl),
+      is,
+    )
+
+    back : (word : List ℕ) → any_below (suc (length word)) (λ len. has (places_of entries (take len word)) place) ≡ true → (at : ℕ) × (begins_at entries word at ≡ true) × (has (places_in entries at) place ≡ true)
+    back word is =
+        let some = below-some (λ len. has (places_of entries (take len word)) place) (suc (length word)) is in
+        found word some.0 some.1 (place_of entries (take some.0 word)) refl (sym (stands-there entries (take some.0 word) place) ∙ some.2)
+
 -- ---- what an index answers
+
+-- the query at the place asks for the word, as the index has it
+abbrev is_asked_at : Seen → List ℕ → ℕ → Bool
+is_asked_at index word place =
+    has (places_of index.words word) place || any_below (suc (length word)) (λ len. has (places_of index.beginnings (take len word)) place)
 
 asked-query : (queries : Queries) (index : Seen) → IsIndexOf queries index → (word : List ℕ) (place : ℕ) → is_asked_at index word place ≡ option_map_or (λ query. asks_for query word) (query_at queries place) false
 asked-query queries index is word place =
@@ -63,63 +130,91 @@ asked-query queries index is word place =
     of None = below-none (suc (length word))
     of (Some query) = some-asked word (terms_of query)
 
--- at the place of a query
-asked-there : (queries : Queries) (index : Seen) → IsIndexOf queries index → (place : ℕ) (query : Option (Formula ℕ)) → slice_get queries place ≡ Some query → (word : List ℕ) →
-    is_asked_at index word place ≡ option_map_or (λ query. asks_for query word) query false
-asked-there queries index is place query there word =
-    asked-query queries index is word place ∙ ap (λ (o : Option (Option (Formula ℕ))). option_map_or (λ query. asks_for query word) (option_and_then (λ query. query) o) false) there
-
-some-beyond : (queries : Queries) (index : Seen) → IsIndexOf queries index → (words others : List (List ℕ)) (place : ℕ) (query : Option (Formula ℕ)) → slice_get queries place ≡ Some query →
-    list_any (λ word. not (is_listed others word) && is_asked_at index word place) words ≡ option_map_or (asks_beyond words others) query false
-some-beyond queries index is words others place query there =
-    (λ i. list_any (λ word. not (is_listed others word) && asked-there queries index is place query there word i) words) ∙ of query
+-- the places of letters that were met are those of the queries that ask for one of the words
+under-asked : (queries : Queries) (index : Seen) → IsIndexOf queries index → (these : List (List ℕ)) (met : Met) → AreMet index these met → (place : ℕ) →
+    (is_under index.words met.words.items place || is_under index.beginnings met.beginnings.items place) ≡ option_map_or (λ query. list_any (asks_for query) these) (query_at queries place) false
+under-asked queries index is these met are place =
+    (λ i. under-words index.words met.words.items these place are.words.all i || under-beginnings index.beginnings met.beginnings.items these place are.beginnings.all i)
+    ∙ sym (any-either (λ word. has (places_of index.words word) place) (λ word. any_below (suc (length word)) (λ len. has (places_of index.beginnings (take len word)) place)) these)
+    ∙ (λ i. list_any (λ word. asked-query queries index is word place i) these)
+    ∙ of (query_at queries place)
   where
-    of : (o : Option (Formula ℕ)) → list_any (λ word. not (is_listed others word) && option_map_or (λ query. asks_for query word) o false) words ≡ option_map_or (asks_beyond words others) o false
-    of None = (λ i. list_any (λ word. and-false (not (is_listed others word)) i) words) ∙ any-none words
+    of : (o : Option (Formula ℕ)) → list_any (λ word. option_map_or (λ query. asks_for query word) o false) these ≡ option_map_or (λ query. list_any (asks_for query) these) o false
+    of None = any-none these
     of (Some query) = refl
 
-some-fits : (queries : Queries) (index : Seen) → IsIndexOf queries index → (words : List (List ℕ)) (place : ℕ) (query : Option (Formula ℕ)) → slice_get queries place ≡ Some query →
-    list_any (λ word. is_asked_at index word place) words ≡ option_map_or (λ query. list_any (asks_for query) words) query false
-some-fits queries index is words place query there = (λ i. list_any (λ word. asked-there queries index is place query there word i) words) ∙ of query
-  where
-    of : (o : Option (Formula ℕ)) → list_any (λ word. option_map_or (λ query. asks_for query word) o false) words ≡ option_map_or (λ query. list_any (asks_for query) words) o false
-    of None = any-none words
-    of (Some query) = refl
-
-queries-counted : (queries : Queries) (index : Seen) → IsIndexOf queries index → length index.wordless ≡ length queries
-queries-counted queries index is = ap length is.wordless ∙ length-map queries (λ query. option_map_or (can_be true) query false)
-
-pub asking-marks : (queries : Queries) (index : Seen) → IsIndexOf queries index → (old new : List (List ℕ)) (n : ℕ) → n ≡ length index.wordless →
-    marked (λ place. list_any (λ word. not (is_listed old word) && is_asked_at index word place) new)
-    (marked (λ place. list_any (λ word. not (is_listed new word) && is_asked_at index word place) old) (replicate n false))
-    ≡ map (λ query. option_map_or (asks_for_change old new) query false) queries
-asking-marks queries index is old new n counted =
-    ap (λ (marks : List Bool). marked come (marked gone marks)) (ap (λ (k : ℕ). replicate k false) (counted ∙ queries-counted queries index is) ∙ all-unmarked queries)
-    ∙ marked-twice gone come (map (λ _. false) queries)
-    ∙ marked-map (λ _. false) (λ query. option_map_or (asks_for_change old new) query false) (λ place. gone place || come place) queries
-    (λ place query there. (λ i. some-beyond queries index is old new place query there i || some-beyond queries index is new old place query there i) ∙ either query)
-  where
-    gone : ℕ → Bool
-    gone place = list_any (λ word. not (is_listed new word) && is_asked_at index word place) old
-
-    come : ℕ → Bool
-    come place = list_any (λ word. not (is_listed old word) && is_asked_at index word place) new
-
-    either : (o : Option (Formula ℕ)) → (option_map_or (asks_beyond old new) o false || option_map_or (asks_beyond new old) o false) ≡ option_map_or (asks_for_change old new) o false
-    either None = refl
-    either (Some query) = refl
-
-pub fitting-marks : (queries : Queries) (index : Seen) → IsIndexOf queries index → (words : List (List ℕ)) →
-    marked (λ place. list_any (λ word. is_asked_at index word place) words) index.wordless ≡ map (λ query. option_map_or (may_hold words) query false) queries
-fitting-marks queries index is words =
-    ap (λ (marks : List Bool). marked (λ place. list_any (λ word. is_asked_at index word place) words) marks) is.wordless
-    ∙ marked-map (λ query. option_map_or (can_be true) query false) (λ query. option_map_or (λ query. list_any (asks_for query) words) query false)
-    (λ place. list_any (λ word. is_asked_at index word place) words) queries (some-fits queries index is words)
-    ∙ (λ i. map (λ query. either query i) queries)
+pub fit-places : (queries : Queries) (index : Seen) → IsIndexOf queries index → (words : List (List ℕ)) (met : Met) → AreMet index words met → (first places : List ℕ) → first ≡ index.wordless →
+    AreThose (λ place. (has first place || is_under index.words met.words.items place) || is_under index.beginnings met.beginnings.items place) places → ArePlaces queries (may_hold words) places
+fit-places queries index is words met are first places same those = record {
+  rise = those.rise;
+  all = λ place.
+      those.all place
+      ∙ or-assoc (has first place) (is_under index.words met.words.items place) (is_under index.beginnings met.beginnings.items place)
+      ∙ (λ i. has (same i) place || under-asked queries index is words met are place i)
+      ∙ ap (λ (b : Bool). b || option_map_or (λ query. list_any (asks_for query) words) (query_at queries place) false) (is.wordless place)
+      ∙ either (query_at queries place);
+}
   where
     either : (o : Option (Formula ℕ)) → (option_map_or (can_be true) o false || option_map_or (λ query. list_any (asks_for query) words) o false) ≡ option_map_or (may_hold words) o false
     either None = refl
     either (Some query) = refl
+
+pub changed-places : (queries : Queries) (index : Seen) → IsIndexOf queries index → (old new : List (List ℕ)) (met : Met) →
+    AreMet index (filter (λ word. not (is_listed new word)) old ++ filter (λ word. not (is_listed old word)) new) met → (first places : List ℕ) → first ≡ [] →
+    AreThose (λ place. (has first place || is_under index.words met.words.items place) || is_under index.beginnings met.beginnings.items place) places → ArePlaces queries (asks_for_change old new) places
+changed-places queries index is old new met are first places none those = record {
+  rise = those.rise;
+  all = λ place.
+      those.all place
+      ∙ (λ i. (has (none i) place || is_under index.words met.words.items place) || is_under index.beginnings met.beginnings.items place)
+      ∙ under-asked queries index is (filter (λ word. not (is_listed new word)) old ++ filter (λ word. not (is_listed old word)) new) met are place
+      ∙ (λ i. option_map_or (λ query. both query i) (query_at queries place) false);
+}
+  where
+    both : (query : Formula ℕ) → list_any (asks_for query) (filter (λ word. not (is_listed new word)) old ++ filter (λ word. not (is_listed old word)) new) ≡ asks_for_change old new query
+    both query =
+        list_any-append (asks_for query) (filter (λ word. not (is_listed new word)) old) (filter (λ word. not (is_listed old word)) new)
+        ∙ (λ i. any-filter (asks_for query) (λ word. not (is_listed new word)) old i || any-filter (asks_for query) (λ word. not (is_listed old word)) new i)
+
+-- ---- what a fit says of terms
+
+word-told : (entries : List (List ℕ × List ℕ)) (met : List ℕ) (words : List (List ℕ)) → ((at : ℕ) → has met at ≡ list_any (λ word. is_at entries word at) words) → (letters : List ℕ) →
+    IfSome (option_map (has met) (place_of entries letters)) (λ asked. asked ≡ list_any (is_asked (Word letters)) words)
+word-told entries met words those letters = of (place_of entries letters) refl
+  where
+    of : (o : Option ℕ) → place_of entries letters ≡ o → IfSome (option_map (has met) o) (λ asked. asked ≡ list_any (is_asked (Word letters)) words)
+    of None same = tt
+    of (Some at) same = those at ∙ (λ i. list_any (λ word. one-there entries letters word at same i) words)
+
+beginning-told : (entries : List (List ℕ × List ℕ)) (met : List ℕ) (words : List (List ℕ)) → ((at : ℕ) → has met at ≡ list_any (λ word. begins_at entries word at) words) → (letters : List ℕ) →
+    IfSome (option_map (has met) (place_of entries letters)) (λ asked. asked ≡ list_any (is_asked (Prefix letters)) words)
+beginning-told entries met words those letters = of (place_of entries letters) refl
+  where
+    one : (at : ℕ) → place_of entries letters ≡ Some at → (word : List ℕ) → begins_at entries word at ≡ starts_with nat_eq word letters
+    one at same word =
+        (λ i. any_below (suc (length word)) (λ len. (one-there entries letters (take len word) at same ∙ same-back letters (take len word)) i))
+        ∙ begins word letters
+
+    of : (o : Option ℕ) → place_of entries letters ≡ o → IfSome (option_map (has met) o) (λ asked. asked ≡ list_any (is_asked (Prefix letters)) words)
+    of None same = tt
+    of (Some at) same = those at ∙ (λ i. list_any (λ word. one at same word i) words)
+
+pub fit-told : (index : Seen) (words : List (List ℕ)) (met : Met) (places : List ℕ) → AreMet index words met → (term : Term) →
+    IfSome (answer_of (record { index = index; places = places; words = met.words.items; beginnings = met.beginnings.items }) term) (λ asked. asked ≡ list_any (is_asked term) words)
+fit-told index words met places are (Word letters) = word-told index.words met.words.items words are.words.all letters
+fit-told index words met places are (Prefix letters) = beginning-told index.beginnings met.beginnings.items words are.beginnings.all letters
+
+known-there : (entries : List (List ℕ × List ℕ)) (met : List ℕ) (letters : List ℕ) (place : ℕ) → has (places_of entries letters) place ≡ true → is_some (option_map (has met) (place_of entries letters)) ≡ true
+known-there entries met letters place there = of (place_of entries letters) (sym (stands-there entries letters place) ∙ there)
+  where
+    of : (o : Option ℕ) → option_map_or (λ at. has (places_in entries at) place) o false ≡ true → is_some (option_map (has met) o) ≡ true
+    of None is = absurd cc
+    of (Some at) is = refl
+
+pub fit-known : (queries : Queries) (index : Seen) → IsIndexOf queries index → (words beginnings places : List ℕ) (term : Term) (place : ℕ) → asks_at queries term place ≡ true →
+    is_some (answer_of (record { index = index; places = places; words = words; beginnings = beginnings }) term) ≡ true
+fit-known queries index is words beginnings places (Word letters) place asks = known-there index.words words letters place (is.words letters place ∙ asks)
+fit-known queries index is words beginnings places (Prefix letters) place asks = known-there index.beginnings beginnings letters place (is.beginnings letters place ∙ asks)
 
 -- ---- one query more
 
@@ -140,19 +235,20 @@ module _ (queries : Queries) (query : Option (Formula ℕ)) (old new : Seen) (pl
   Adds before after test = (letters : List ℕ) (other : ℕ) →
       has (places_of after letters) other ≡ (has (places_of before letters) other || (option_map_or (test letters) query false && place == other))
 
-  pub index-more : IsIndexOf queries old → place ≡ length old.wordless → Adds old.words new.words has_word → Adds old.beginnings new.beginnings has_beginning →
-      new.wordless ≡ old.wordless ++ option_map_or (can_be true) query false ∷ [] → IsIndexOf (queries ++ query ∷ []) new
-  index-more is counted words beginnings wordless = record {
+  pub index-more : IsIndexOf queries old → place ≡ old.count → new.count ≡ old.count + 1 → Adds old.words new.words has_word → Adds old.beginnings new.beginnings has_beginning →
+      AddsAll old.wordless new.wordless (λ other. option_map_or (can_be true) query false && place == other) → IsIndexOf (queries ++ query ∷ []) new
+  index-more is counted more words beginnings wordless = record {
+    count = more ∙ ap (λ (n : ℕ). n + 1) is.count ∙ sym (length-append queries (query ∷ []));
     words = λ letters other.
         words letters other
-        ∙ (λ i. is.words letters other i || (option_map_or (has_word letters) query false && (counted ∙ queries-counted queries old is) i == other))
+        ∙ (λ i. is.words letters other i || (option_map_or (has_word letters) query false && (counted ∙ is.count) i == other))
         ∙ sym (more-said (has_word letters) queries query other);
     beginnings = λ letters other.
         beginnings letters other
-        ∙ (λ i. is.beginnings letters other i || (option_map_or (has_beginning letters) query false && (counted ∙ queries-counted queries old is) i == other))
+        ∙ (λ i. is.beginnings letters other i || (option_map_or (has_beginning letters) query false && (counted ∙ is.count) i == other))
         ∙ sym (more-said (has_beginning letters) queries query other);
-    wordless =
-        wordless
-        ∙ ap (λ (marks : List Bool). marks ++ option_map_or (can_be true) query false ∷ []) is.wordless
-        ∙ sym (map-append (λ query. option_map_or (can_be true) query false) queries (query ∷ []));
+    wordless = λ other.
+        wordless other
+        ∙ (λ i. is.wordless other i || (option_map_or (can_be true) query false && (counted ∙ is.count) i == other))
+        ∙ sym (more-said (can_be true) queries query other);
   }

@@ -2,5 +2,5 @@ pub mod AskLemmas
 pub mod IndexLemmas
 pub mod LawLemmas
 pub mod ListLemmas
-pub mod MarkLemmas
+pub mod NumberLemmas
 pub mod PostingLemmas

@@ -1,18 +1,20 @@
--- Letters with their places: what a change leaves.
-use Rattle.std.proofs.Common.{◌≡◌, ℕ, Bool, true, false, cond, List, [], ◌∷◌, take, map, Bor, None, Some, refl, ap, sym, ◌∙◌}
-use Rattle.std.specs.Prelude.{◌==◌, ◌&&◌, ◌||◌, ◌++◌, Option, Vec, if◌then◌else◌, is_some, unwrap_or}
-use Rattle.std.specs.Map.{lookup, set_value}
-use Rattle.std.specs.Option.{option_copied, option_map_or}
+-- Letters with their places: what a change leaves, and where letters stand.
+use Rattle.std.proofs.Common.{◌≡◌, ℕ, zero, suc, ◌+◌, Bool, true, false, cond, List, [], ◌∷◌, map, length, get_or, Bor, None, Some, refl, ap, sym, ◌∙◌, arith, inl, inr}
+use Rattle.std.specs.Prelude.{◌==◌, ◌&&◌, ◌||◌, ◌++◌, not, nat_lt, Option, Vec, if◌then◌else◌, is_some, unwrap_or, position, slice_get}
+use Rattle.std.specs.List.{position_or_len}
+use Rattle.std.specs.Map.{keys_of, lookup, set_value}
+use Rattle.std.specs.Option.{option_copied, option_map, option_map_or}
 use Rattle.std.specs.Str.{bytes_eq}
 use Rattle.std.specs.declared.alloc.Global.{Global}
-use Rattle.std.proofs.lemmas.Bool.{false≢true}
+use Rattle.std.proofs.lemmas.Bool.{cases_lt, eq-eqb, eqb-true, false≢true, le-ltb, lt-ltb}
 use Rattle.std.proofs.lemmas.List.Folds.{list_any-append}
+use Rattle.std.proofs.lemmas.List.Quantifiers.{position-Some}
 use Rattle.std.proofs.lemmas.Slice.Eq.{bytes_eq-Decides}
 use Rattle.indexmap.specs.IndexMap.{insert_entry}
 use Rattle.hac_model.specs.Tree.Links.{has}
-use Rattle.query_index.specs.Marks.{any_below, marked}
-use Rattle.query_index.proofs.ListLemmas.{below-none, or-false}
-use Rattle.query_index.proofs.MarkLemmas.{marked-none}
+use Rattle.query_index.specs.Inner.{begins_at, is_at, places_in}
+use Rattle.query_index.specs.Seen.{place_of, places_of}
+use Rattle.query_index.proofs.ListLemmas.{agree, below-none, or-false}
 
 abbrev pub Letters : Type 0
 Letters = Vec ℕ Global
@@ -123,10 +125,97 @@ places-seen (e ∷ es) letters =
       | false ↦ places-seen es letters
     ]
 
+-- ---- where letters stand
+
+ltb-suc : (a b : ℕ) → nat_lt (suc a) (suc b) ≡ nat_lt a b
+ltb-suc a b = elim (cases_lt a b) [
+  | inl low ↦ lt-ltb (suc a) (suc b) (omega (arith, low)) ∙ sym (lt-ltb a b low)
+  | inr high ↦ le-ltb (suc a) (suc b) (omega (arith, high)) ∙ sym (le-ltb a b high)
+]
+
+next-place : (b : Bool) (n : ℕ) → cond b (Some (suc n)) None ≡ option_map suc (cond b (Some n) None)
+next-place true n = refl
+next-place false n = refl
+
+position-cons : {X : Type 0} (p : X → Bool) (x : X) (xs : List X) → position p (x ∷ xs) ≡ cond (p x) (Some 0) (option_map suc (position p xs))
+position-cons p x xs = of (p x)
+  where
+    one : (n : ℕ) → 1 + n ≡ suc n
+    one n = omega arith
+
+    of : (b : Bool) → cond (nat_lt (cond (not b) (1 + position_or_len p xs) 0) (suc (length xs))) (Some (cond (not b) (1 + position_or_len p xs) 0)) None ≡ cond b (Some 0) (option_map suc (position p xs))
+    of true = ap (λ (b : Bool). cond b (Some 0) None) (lt-ltb 0 (suc (length xs)) (omega arith))
+    of false =
+        ap (λ (n : ℕ). cond (nat_lt n (suc (length xs))) (Some n) None) (one (position_or_len p xs))
+        ∙ ap (λ (b : Bool). cond b (Some (suc (position_or_len p xs))) None) (ltb-suc (position_or_len p xs) (length xs))
+        ∙ next-place (nat_lt (position_or_len p xs) (length xs)) (position_or_len p xs)
+
+abbrev Seen_postings : Type 0
+Seen_postings = List (List ℕ × List ℕ)
+
+place-cons : (entry : List ℕ × List ℕ) (entries : Seen_postings) (letters : List ℕ) → place_of (entry ∷ entries) letters ≡ cond (bytes_eq letters entry.0) (Some 0) (option_map suc (place_of entries letters))
+place-cons entry entries letters = position-cons (λ entry. bytes_eq letters entry.0) entry entries
+
+pub place-seen : (entries : List (Letters × Letters)) (letters : List ℕ) → position (is_for letters) (keys_of entries) ≡ place_of (map (λ entry. (entry.0.items, entry.1.items)) entries) letters
+place-seen [] letters = refl
+place-seen (e ∷ es) letters =
+    position-cons (is_for letters) e.0 (keys_of es)
+    ∙ ap (λ (o : Option ℕ). cond (bytes_eq letters e.0.items) (Some 0) (option_map suc o)) (place-seen es letters)
+    ∙ sym (place-cons (e.0.items, e.1.items) (map (λ entry. (entry.0.items, entry.1.items)) es) letters)
+
+-- a place that letters have is among those where they stand
+pub stands-there : (entries : Seen_postings) (letters : List ℕ) (place : ℕ) → has (places_of entries letters) place ≡ option_map_or (λ at. has (places_in entries at) place) (place_of entries letters) false
+stands-there [] letters place = refl
+stands-there (e ∷ es) letters place =
+    of (bytes_eq letters e.0) (stands-there es letters place)
+    ∙ ap (λ (o : Option ℕ). option_map_or (λ at. has (places_in (e ∷ es) at) place) o false) (sym (place-cons e es letters))
+  where
+    later : (o : Option ℕ) → option_map_or (λ at. has (places_in es at) place) o false ≡ option_map_or (λ at. has (places_in (e ∷ es) at) place) (option_map suc o) false
+    later None = refl
+    later (Some at) = refl
+
+    of : (b : Bool) → has (places_of es letters) place ≡ option_map_or (λ at. has (places_in es at) place) (place_of es letters) false →
+        has (unwrap_or (cond b (Some e.1) (lookup (bytes_eq letters) es)) []) place ≡ option_map_or (λ at. has (places_in (e ∷ es) at) place) (cond b (Some 0) (option_map suc (place_of es letters))) false
+    of true rest = refl
+    of false rest = rest ∙ later (place_of es letters)
+
+-- letters that stand there are the key
+key-there : (entries : Seen_postings) (letters : List ℕ) (at : ℕ) → place_of entries letters ≡ Some at → letters ≡ (get_or entries at ([], [])).0
+key-there entries letters at is =
+    let found = position-Some (λ entry. bytes_eq letters entry.0) entries at ([], []) is in
+    same letters (get_or entries at ([], [])).0 found.1
+
+pub stands-as : (o : Option ℕ) (at : ℕ) → option_map_or (λ found. found == at) o false ≡ true → o ≡ Some at
+stands-as None at is = absurd cc
+stands-as (Some found) at is = ap (λ (n : ℕ). Some n) (eqb-true found at is)
+
+-- where letters stand, a word stands that is those letters, and no other
+pub one-there : (entries : Seen_postings) (letters word : List ℕ) (at : ℕ) → place_of entries letters ≡ Some at → is_at entries word at ≡ bytes_eq letters word
+one-there entries letters word at is = agree (is_at entries word at) (bytes_eq letters word) there back
+  where
+    there : is_at entries word at ≡ true → bytes_eq letters word ≡ true
+    there stands = (bytes_eq-Decides letters word).1 (key-there entries letters at is ∙ sym (key-there entries word at (stands-as (place_of entries word) at stands)))
+
+    back : bytes_eq letters word ≡ true → is_at entries word at ≡ true
+    back even =
+        ap (λ (o : Option ℕ). option_map_or (λ found. found == at) o false) (ap (place_of entries) (sym (same letters word even)) ∙ is)
+        ∙ eq-eqb at at refl
+
 -- where there are no letters, none begin a word
-pub none-begin : (entries : List (Letters × Letters)) (n : ℕ) (word : List ℕ) (marks : List Bool) → entries ≡ [] →
-    marks ≡ marked (λ place. any_below n (λ len. has (items_of (lookup (is_for (take len word)) entries)) place)) marks
-none-begin entries n word marks none =
-    sym (marked-none marks)
-    ∙ (λ i. marked (λ place. sym (below-none n) i) marks)
-    ∙ ap (λ (es : List (Letters × Letters)). marked (λ place. any_below n (λ len. has (items_of (lookup (is_for (take len word)) es)) place)) marks) (sym none)
+pub none-begin : (entries : List (Letters × Letters)) (word : List ℕ) (at : ℕ) → entries ≡ [] → false ≡ begins_at (map (λ entry. (entry.0.items, entry.1.items)) entries) word at
+none-begin entries word at none =
+    sym (below-none (suc (length word)))
+    ∙ ap (λ (es : List (Letters × Letters)). begins_at (map (λ entry. (entry.0.items, entry.1.items)) es) word at) (sym none)
+
+-- letters that were looked up, one or none
+pub none-met : (o : Option ℕ) → o ≡ None → (n : ℕ) → false ≡ option_map_or (λ found. found == n) o false
+none-met o is n = ap (λ (o : Option ℕ). option_map_or (λ found. found == n) o false) (sym is)
+
+pub one-met : (o : Option ℕ) (at : ℕ) → o ≡ Some at → (n : ℕ) → (at == n) ≡ option_map_or (λ found. found == n) o false
+one-met o at is n = ap (λ (o : Option ℕ). option_map_or (λ found. found == n) o false) (sym is)
+
+-- the places that are kept there
+pub kept-seen : (entries : List (Letters × Letters)) (at : ℕ) → option_map_or (λ entry. entry.1.items) (slice_get entries at) [] ≡ places_in (map (λ entry. (entry.0.items, entry.1.items)) entries) at
+kept-seen [] at = refl
+kept-seen (e ∷ es) zero = refl
+kept-seen (e ∷ es) (suc at) = kept-seen es at

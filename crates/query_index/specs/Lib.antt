@@ -1,5 +1,5 @@
 pub mod Asking
 pub mod Inner
 pub mod Laws
-pub mod Marks
+pub mod Numbers
 pub mod Seen

@@ -1,17 +1,21 @@
 //! The index: which queries ask for a word.
-ghost use Rattle.std.specs.Prelude.{◌≡◌, ◌++◌, ◌∷◌, ◌&&◌, ℕ, [], List, Option, IfOk, false, map};
-ghost use Rattle.std.specs.Prelude.{not};
+ghost use Rattle.std.specs.Prelude.{◌≡◌, ◌++◌, ◌∷◌, ◌||◌, ℕ, [], List, Option, IfOk, OnOk};
+ghost use Rattle.std.specs.Prelude.{filter, not};
 ghost use Rattle.std.specs.Cmp.Lexicographic.{slice_cmp};
-ghost use Rattle.std.specs.List.{list_any};
 ghost use Rattle.std.specs.List.Sorted.{IsStrictlySortedBy};
-ghost use Rattle.std.specs.Option.{option_copied, option_map_or};
+ghost use Rattle.std.specs.Option.{option_copied, option_map};
 ghost use Rattle.std.specs.Ordering.{nat_cmp};
 ghost use Rattle.hac_model.specs.Query.Formula.{Formula};
-ghost use Rattle.query_index.specs.Asking.{asks_for_change, is_listed, may_hold};
-ghost use Rattle.query_index.specs.Inner.{is_asked_at};
-ghost use Rattle.query_index.specs.Marks.{marked};
-ghost use Rattle.query_index.specs.Seen.{IsIndexOf};
+ghost use Rattle.hac_model.specs.Tree.Links.{has};
+ghost use Rattle.hac_model.specs.Tree.Valid.{RiseFrom};
+ghost use Rattle.query_index.specs.Asking.{asks_for_change, is_listed};
+ghost use Rattle.query_index.specs.Inner.{AreMet, Meets, is_under};
+ghost use Rattle.query_index.specs.Numbers.{AreThose};
+ghost use Rattle.query_index.specs.Seen.{ArePlaces, IsFitOf, IsIndexOf, place_of};
 
+use crate::fit::Fit;
+use crate::met::Met;
+use crate::numbers::put_in_order;
 use crate::postings::{self, Postings};
 use crate::queries;
 use hac_model::{Memory, Name, Number, Query};
@@ -24,10 +28,12 @@ use std::marker::Model;
 #[derive(Drop)]
 pub struct QueryIndex {
     alloc: Global,
+    // How many queries there are.
+    count: usize,
     words: Postings,
     beginnings: Postings,
-    // Whether the query at a place can hold of an item that has none of its terms.
-    wordless: Vec<bool>,
+    // The places of the queries that can hold of an item that has none of their terms.
+    wordless: Vec<usize>,
 }
 
 impl Model for QueryIndex {
@@ -47,6 +53,7 @@ impl QueryIndex {
     {
         QueryIndex {
             alloc,
+            count: 0,
             words: IndexMap::new(alloc),
             beginnings: IndexMap::new(alloc),
             wordless: Vec::new(alloc),
@@ -58,88 +65,129 @@ impl QueryIndex {
         ensures { (queries : List (Option (Formula ℕ))) → IsIndexOf queries self →
             IfOk result (IsIndexOf (queries ++ option_copied query.entry ∷ [])) }
     {
+        let Some(next) = self.count.checked_add(1) else {
+            return Err(Memory);
+        };
         let QueryIndex {
             alloc,
+            count,
             mut words,
             mut beginnings,
             mut wordless,
         } = self;
-        let place = wordless.len();
-        queries::add(alloc, &mut words, &mut beginnings, query, place)?;
-        wordless.push(queries::is_wordless(query))?;
+        queries::add(alloc, &mut words, &mut beginnings, query, count)?;
+        queries::add_wordless(&mut wordless, query, count)?;
         Ok(QueryIndex {
             alloc,
+            count: next,
             words,
             beginnings,
             wordless,
         })
     }
 
-    /// Says of each query whether it asks for a word that is gone, or for one that is new.
-    pub fn asking(&self, old: &[Name], new: &[Name]) -> Result<Vec<bool>, Memory>
+    /// The places of the queries that ask for a word that is gone, or for one that is new, in
+    /// order.
+    pub fn asking(&self, old: &[Name], new: &[Name]) -> Result<Vec<usize>, Memory>
         requires old { IsStrictlySortedBy (slice_cmp nat_cmp) old.now }
         requires new { IsStrictlySortedBy (slice_cmp nat_cmp) new.now }
-        ensures { (queries : List (Option (Formula ℕ))) → IsIndexOf queries self.now →
-            IfOk result (λ marks. marks.items
-            ≡ map (λ query. option_map_or (asks_for_change old.now new.now) query false) queries) }
+        ensures { (queries : List (Option (Formula ℕ))) → IsIndexOf queries self.now → IfOk result
+            (λ places. ArePlaces queries (asks_for_change old.now new.now) places.items) }
     {
-        let mut marks = vec![in self.alloc; false; self.wordless.len()]?;
-        self.mark_beyond(old, new, &mut marks);
-        self.mark_beyond(new, old, &mut marks);
-        Ok(marks)
+        let mut met = Met::new(self.alloc);
+        self.meet_beyond(old, new, &mut met)?;
+        self.meet_beyond(new, old, &mut met)?;
+        met.put_in_order();
+        self.places_of(&met, Vec::new(self.alloc))
     }
 
-    /// Says of each query whether it may hold of an item with these words, in any order.
-    pub fn fitting(&self, words: &[Run<'_>]) -> Result<Vec<bool>, Memory>
+    /// Which queries may hold of an item with these words, in any order, and which of their terms
+    /// ask for one of them.
+    pub fn fitting(&self, words: &[Run<'_>]) -> Result<Fit<'_>, Memory>
         ensures { (queries : List (Option (Formula ℕ))) → IsIndexOf queries self.now →
-            IfOk result (λ marks. marks.items
-            ≡ map (λ query. option_map_or (may_hold words.now) query false) queries) }
+            IfOk result (IsFitOf queries words.now) }
     {
-        let mut marks = Vec::from_slice(self.alloc, &self.wordless)?;
-        self.mark_words(words, &mut marks);
-        Ok(marks)
+        let mut met = Met::new(self.alloc);
+        self.meet_words(words, &mut met)?;
+        met.put_in_order();
+        let wordless = Vec::from_slice(self.alloc, self.wordless.as_slice())?;
+        let places = self.places_of(&met, wordless)?;
+        Ok(Fit {
+            index: self,
+            met,
+            places,
+        })
     }
 
-    /// Marks the queries that ask for one of these words that isn't among the others.
-    fn mark_beyond(&self, words: &[Name], others: &[Name], marks: &mut [bool])
+    /// Whether letters were met as a word, if a query asks for that.
+    pub(crate) fn is_word_met(&self, letters: &[u8], met: &[usize]) -> Option<bool>
+        requires { RiseFrom 0 met.now }
+        ensures { result ≡ option_map (has met.now) (place_of self.now.words letters.now) }
+    {
+        postings::is_met(&self.words, letters, met)
+    }
+
+    /// Whether they were met as the beginning of a word, if a query asks for that.
+    pub(crate) fn is_beginning_met(&self, letters: &[u8], met: &[usize]) -> Option<bool>
+        requires { RiseFrom 0 met.now }
+        ensures { result ≡ option_map (has met.now) (place_of self.now.beginnings letters.now) }
+    {
+        postings::is_met(&self.beginnings, letters, met)
+    }
+
+    /// These places and those of the letters that were met, in order.
+    fn places_of(&self, met: &Met, places: Vec<usize>) -> Result<Vec<usize>, Memory>
+        ensures { IfOk result (λ all. AreThose (λ place. (has places.items place
+            || is_under self.now.words met.now.words.items place)
+            || is_under self.now.beginnings met.now.beginnings.items place) all.items) }
+    {
+        let mut places = places;
+        postings::add_places(&self.words, met.words.as_slice(), &mut places)?;
+        postings::add_places(&self.beginnings, met.beginnings.as_slice(), &mut places)?;
+        put_in_order(&mut places);
+        Ok(places)
+    }
+
+    /// Adds what those of these words meet that aren't among the others.
+    fn meet_beyond(&self, words: &[Name], others: &[Name], met: &mut Met) -> Result<(), Memory>
         requires { IsStrictlySortedBy (slice_cmp nat_cmp) others.now }
-        ensures { marks.new ≡ marked (λ place. list_any (λ word.
-            not (is_listed others.now word) && is_asked_at self.now word place) words.now)
-            marks.old }
+        ensures { OnOk result (Meets self.now
+            (filter (λ word. not (is_listed others.now word)) words.now) met.old met.new) }
     {
         for word in words {
-            self.mark_new(word, others, marks);
+            self.meet_new(word, others, met)?;
         }
+        Ok(())
     }
 
-    /// Marks the queries that ask for one of these words.
-    fn mark_words(&self, words: &[Run<'_>], marks: &mut [bool])
-        ensures { marks.new ≡ marked
-            (λ place. list_any (λ word. is_asked_at self.now word place) words.now) marks.old }
+    /// Adds what these words meet.
+    fn meet_words(&self, words: &[Run<'_>], met: &mut Met) -> Result<(), Memory>
+        ensures { OnOk result (Meets self.now words.now met.old met.new) }
     {
         for word in words {
-            self.mark(word.as_bytes(), marks);
+            self.meet(word.as_bytes(), met)?;
         }
+        Ok(())
     }
 
-    /// Marks the queries that ask for a word, if it isn't among the others.
-    fn mark_new(&self, word: &Name, others: &[Name], marks: &mut [bool])
+    /// Adds what a word meets, if it isn't among the others.
+    fn meet_new(&self, word: &Name, others: &[Name], met: &mut Met) -> Result<(), Memory>
         requires { IsStrictlySortedBy (slice_cmp nat_cmp) others.now }
-        ensures { marks.new ≡ marked (λ place.
-            not (is_listed others.now word.now) && is_asked_at self.now word.now place)
-            marks.old }
+        ensures { OnOk result (Meets self.now
+            (filter (λ word. not (is_listed others.now word)) (word.now ∷ [])) met.old met.new) }
     {
-        if !is_among(word, others) {
-            self.mark(word.as_bytes(), marks);
+        if is_among(word, others) {
+            return Ok(());
         }
+        self.meet(word.as_bytes(), met)
     }
 
-    /// Marks the queries that ask for a word.
-    fn mark(&self, word: &[u8], marks: &mut [bool])
-        ensures { marks.new ≡ marked (is_asked_at self.now word.now) marks.old }
+    /// Adds what a word meets.
+    fn meet(&self, word: &[u8], met: &mut Met) -> Result<(), Memory>
+        ensures { OnOk result (Meets self.now (word.now ∷ []) met.old met.new) }
     {
-        postings::mark(&self.words, word, marks);
-        postings::mark_beginnings(&self.beginnings, word, marks);
+        postings::meet(&self.words, word, &mut met.words)?;
+        postings::meet_beginnings(&self.beginnings, word, &mut met.beginnings)
     }
 }
 

@@ -2,9 +2,13 @@
 //! places of the queries that ask for them. It knows no directories: a query is at a place.
 #![tactic(auto)]
 
+mod fit;
 mod index;
 pub mod laws;
+mod met;
+mod numbers;
 mod postings;
 mod queries;
 
+pub use fit::Fit;
 pub use index::QueryIndex;

@@ -1,27 +1,22 @@
 //! Letters, and the places of the queries that ask for them.
 ghost use Rattle.std.specs.Prelude.{◌≡◌, ◌==◌, ◌++◌, ◌∷◌, ℕ, List, [], IsTrue, OnOk};
 ghost use Rattle.std.specs.Prelude.{if◌then◌else◌};
+ghost use Rattle.std.specs.Option.{option_map};
 ghost use Rattle.std.specs.Str.{bytes_eq};
 ghost use Rattle.hac_model.specs.Tree.Links.{has};
-ghost use Rattle.query_index.specs.Inner.{AddsPlace, begins_at, has_letters, kept_at};
-ghost use Rattle.query_index.specs.Marks.{marked};
+ghost use Rattle.hac_model.specs.Tree.Valid.{RiseFrom};
+ghost use Rattle.query_index.specs.Inner.{AddsPlace, begins_at, has_letters, is_at, is_under};
+ghost use Rattle.query_index.specs.Inner.{kept_at, places_in, seen_postings};
+ghost use Rattle.query_index.specs.Numbers.{AddsAll};
+ghost use Rattle.query_index.specs.Seen.{place_of};
 
+use crate::numbers::is_among;
 use hac_model::Memory;
 use indexmap::IndexMap;
 use std::alloc::Global;
 
 /// The places of the queries that ask for letters, by the letters.
 pub(crate) type Postings = IndexMap<Vec<u8>, Vec<usize>>;
-
-/// The places of letters.
-fn places_of<'a>(postings: &'a Postings, letters: &[u8]) -> &'a [usize]
-    ensures { result.now ≡ kept_at postings.now letters.now }
-{
-    match postings.get(letters) {
-        Some(places) => places.as_slice(),
-        None => &[],
-    }
-}
 
 /// Adds a place to those of letters.
 pub(crate) fn add(
@@ -63,45 +58,84 @@ fn put(postings: &mut Postings, letters: &[u8], place: usize) -> Result<(), Memo
     Ok(())
 }
 
-/// Marks the places of letters.
-pub(crate) fn mark(postings: &Postings, letters: &[u8], marks: &mut [bool])
-    ensures { marks.new ≡ marked (has (kept_at postings.now letters.now)) marks.old }
+/// Where letters stand.
+fn place_of(postings: &Postings, letters: &[u8]) -> Option<usize>
+    ensures { result ≡ place_of (seen_postings postings.now) letters.now }
 {
-    mark_all(places_of(postings, letters), marks);
+    postings.get_index_of(letters)
 }
 
-/// Marks the places of all beginnings of a word.
-pub(crate) fn mark_beginnings(postings: &Postings, word: &[u8], marks: &mut [bool])
-    ensures { marks.new ≡ marked (begins_at postings.now word.now) marks.old }
+/// Adds where letters stand.
+pub(crate) fn meet(postings: &Postings, letters: &[u8], met: &mut Vec<usize>) -> Result<(), Memory>
+    ensures { OnOk result (AddsAll met.old.items met.new.items
+        (is_at (seen_postings postings.now) letters.now)) }
 {
-    if !postings.is_empty() {
-        mark_lengths(postings, word, marks);
+    match place_of(postings, letters) {
+        Some(at) => met.push(at)?,
+        None => {}
     }
+    Ok(())
 }
 
-/// Marks them with a look-up of each beginning, the empty one and the whole word among them.
-fn mark_lengths(postings: &Postings, word: &[u8], marks: &mut [bool])
-    ensures { marks.new ≡ marked (begins_at postings.now word.now) marks.old }
+/// Adds where all beginnings of a word stand.
+pub(crate) fn meet_beginnings(
+    postings: &Postings,
+    word: &[u8],
+    met: &mut Vec<usize>,
+) -> Result<(), Memory>
+    ensures { OnOk result (AddsAll met.old.items met.new.items
+        (begins_at (seen_postings postings.now) word.now)) }
+{
+    if postings.is_empty() {
+        return Ok(());
+    }
+    meet_lengths(postings, word, met)
+}
+
+/// Adds them with a look-up of each beginning, the empty one and the whole word among them.
+fn meet_lengths(postings: &Postings, word: &[u8], met: &mut Vec<usize>) -> Result<(), Memory>
+    ensures { OnOk result (AddsAll met.old.items met.new.items
+        (begins_at (seen_postings postings.now) word.now)) }
 {
     for len in 0..word.len() + 1 {
-        mark(postings, &word[..len], marks);
+        meet(postings, &word[..len], met)?;
+    }
+    Ok(())
+}
+
+/// Whether letters stand where some were met, if they stand anywhere.
+pub(crate) fn is_met(postings: &Postings, letters: &[u8], met: &[usize]) -> Option<bool>
+    requires { RiseFrom 0 met.now }
+    ensures { result ≡ option_map (has met.now)
+        (place_of (seen_postings postings.now) letters.now) }
+{
+    match place_of(postings, letters) {
+        Some(at) => Some(is_among(at, met)),
+        None => None,
     }
 }
 
-/// Marks these places.
-fn mark_all(places: &[usize], marks: &mut [bool])
-    ensures { marks.new ≡ marked (has places.now) marks.old }
+/// Adds the places of the letters that stand there.
+pub(crate) fn add_places(
+    postings: &Postings,
+    met: &[usize],
+    places: &mut Vec<usize>,
+) -> Result<(), Memory>
+    ensures { OnOk result (AddsAll places.old.items places.new.items
+        (is_under (seen_postings postings.now) met.now)) }
 {
-    for place in places {
-        mark_one(*place, marks);
+    for at in met {
+        places.extend_from_slice(places_in(postings, *at))?;
     }
+    Ok(())
 }
 
-/// Marks one place.
-fn mark_one(place: usize, marks: &mut [bool])
-    ensures { marks.new ≡ marked (λ other. place == other) marks.old }
+/// The places of the letters that stand in one place.
+fn places_in(postings: &Postings, at: usize) -> &[usize]
+    ensures { result.now ≡ places_in (seen_postings postings.now) at }
 {
-    if place < marks.len() {
-        marks[place] = true;
+    match postings.get_index(at) {
+        Some((_, places)) => places.as_slice(),
+        None => &[],
     }
 }

@@ -1,17 +1,33 @@
 //! Walks over a query.
-ghost use Rattle.std.specs.Prelude.{◌≡◌, OnOk, false, true};
+ghost use Rattle.std.specs.Prelude.{◌≡◌, ◌==◌, ◌&&◌, OnOk, false, true};
 ghost use Rattle.std.specs.Option.{option_copied, option_map_or};
 ghost use Rattle.hac_model.specs.Query.Terms.{is_same_term};
 ghost use Rattle.hac_model.specs.declared.terms.Term.TheVariants.{Prefix, Word};
 ghost use Rattle.query_index.specs.Asking.{can_be};
 ghost use Rattle.query_index.specs.Inner.{AddsPlace, has_beginning, has_word};
+ghost use Rattle.query_index.specs.Numbers.{AddsAll};
 
 use crate::postings::{self, Postings};
 use hac_model::{Memory, Node, Number, Query, Term};
 use std::alloc::Global;
 
+/// Adds the place of a query, if there is one that can hold of an item that has none of its terms.
+pub(crate) fn add_wordless(
+    wordless: &mut Vec<usize>,
+    query: Option<&Query<Number>>,
+    place: usize,
+) -> Result<(), Memory>
+    ensures { OnOk result (AddsAll wordless.old.items wordless.new.items (λ other.
+        option_map_or (can_be true) (option_copied query.entry) false && place == other)) }
+{
+    if is_wordless(query) {
+        wordless.push(place)?;
+    }
+    Ok(())
+}
+
 /// Whether there is a query that can hold of an item that has none of its terms.
-pub(crate) fn is_wordless(query: Option<&Query<Number>>) -> bool
+fn is_wordless(query: Option<&Query<Number>>) -> bool
     ensures { result ≡ option_map_or (can_be true) (option_copied query.entry) false }
 {
     match query {

@@ -1,6 +1,7 @@
 pub mod WayLemmas
 pub mod ProbeLemmas
 pub mod NeededLemmas
+pub mod PlaceLemmas
 pub mod LeftLemmas
 pub mod IndexedLemmas
 pub mod SettledLemmas

@@ -1,6 +1,6 @@
 -- Where judging begins of a file that is to show another text.
 use Rattle.std.proofs.Common.{◌≡◌, ℕ, Bool, true, false, List, [], ◌∷◌, ap, refl, subst, sym, ◌∙◌}
-use Rattle.std.specs.Prelude.{◌||◌, ◌&&◌, ◌≢◌, if◌then◌else◌, map, IfOk, Option, Some, None, Result, Ok, Err, Vec, is_some, option_and_then}
+use Rattle.std.specs.Prelude.{◌||◌, ◌&&◌, ◌≢◌, if◌then◌else◌, IfOk, IfSome, Option, Some, None, Result, Ok, Err, Vec, is_some, option_and_then}
 use Rattle.std.specs.List.{AllByRecursion, list_any}
 use Rattle.std.specs.Option.{option_map_or}
 use Rattle.std.specs.declared.alloc.Global.{Global}
@@ -18,14 +18,15 @@ use Rattle.hac_model.specs.declared.states.Body.TheVariants.{File, Dir, Symlink,
 use Rattle.hac_model.specs.declared.states.State.{State}
 use Rattle.hac_model.specs.declared.terms.Term.{Term}
 use Rattle.hac_words.proofs.WordLemmas.{has_term-rising_words, list_any-rising_words}
+use Rattle.query_index.specs.Seen.{Fitting, IsFitOf, answer_of}
 use Rattle.query_index.proofs.LawLemmas.{unasked_terms_stay, unfit_queries_fail}
 use Rattle.reeval.specs.Judging.{JudgesAlike, LeavesAlike, ProvidesAlike}
-use Rattle.reeval.specs.Routes.{Covers, dirs_of}
+use Rattle.reeval.specs.Routes.{Covers}
 use Rattle.reeval.specs.declared.settling.Stop.{Stop}
 use Rattle.reeval.proofs.AlikeLemmas.{judge-across, none-across, unfound-across}
 use Rattle.reeval.proofs.JudgeLemmas.{links-judged}
 use Rattle.reindex.specs.Steps.{indexed_through, may_begin, may_differ}
-use Rattle.reindex.specs.Ways.{IsWayOf, begun_at, leans, needed, stops_marked}
+use Rattle.reindex.specs.Ways.{IsWayOf, begun_at, leans, needed}
 use Rattle.reindex.specs.declared.ways.Way.{Way}
 use Rattle.reindex.proofs.IndexedLemmas.{added-indexed, below-indexed, depends-indexed, document-indexed, item-indexed, lenders-indexed, parent-indexed, permanent-indexed, prohibited-indexed, query-indexed, semantic-indexed}
 use Rattle.reindex.proofs.NeededLemmas.{covers-needed}
@@ -146,14 +147,14 @@ pub covered-anyway-if : (s : State) (last file : ℕ) (way : Way) → IsWayOf s 
 covered-anyway-if s last file way w before after (Ok stops) is = subst (λ (items : List Stop). Covers s (indexed_through last s) items file) (sym is) (covered-anyway s last file way w before after)
 covered-anyway-if s last file way w before after (Err memory) is = tt
 
--- marks, query by query, say where judging begins
-marked-all : (s : State) (old : Option (List ℕ)) (new : List ℕ) (stops : List Stop) →
-    stops_marked stops (map (λ query. option_map_or (may_differ old new) query false) (map (query_at s) (dirs_of stops))) ≡ begun_at (may_begin s old new) stops
-marked-all s old new [] = refl
-marked-all s old new (stop ∷ stops) = ap (λ (more : List Stop). record stop { begins = may_begin s old new stop.dir } ∷ more) (marked-all s old new stops)
+-- what the index says of the words of a text that an item shows, the state says of its terms
+pub fit-tells : (queries : List (Option (Formula ℕ))) (fit : Fitting) (t : State) (item : ℕ) (text : List ℕ) → shown_of t item ≡ Some text → IsFitOf queries (words text) fit →
+    (term : Term) → IfSome (answer_of fit term) (λ has. has ≡ atom t term item)
+fit-tells queries fit t item text shows is term = of (answer_of fit term) (is.answers term)
+  where
+    plain : is_document_at t.entries item ≡ false
+    plain = text-no-document (body_at t.entries item) text shows
 
-pub marked-if : (s : State) (old : Option (List ℕ)) (new : List ℕ) (result : Result (Vec Stop Global) Memory) (all stops : List Stop) (marks : List Bool) → stops ≡ all →
-    marks ≡ map (λ query. option_map_or (may_differ old new) query false) (map (query_at s) (dirs_of all)) →
-    IfOk result (λ marked. marked.items ≡ needed (stops_marked stops marks)) → IfOk result (λ marked. marked.items ≡ needed (begun_at (may_begin s old new) all))
-marked-if s old new (Ok marked) all stops marks same each is = is ∙ (λ i. needed (stops_marked (same i) (each i))) ∙ ap needed (marked-all s old new all)
-marked-if s old new (Err memory) all stops marks same each is = tt
+    of : (o : Option Bool) → IfSome o (λ asked. asked ≡ list_any (is_asked term) (words text)) → IfSome o (λ has. has ≡ atom t term item)
+    of None told = tt
+    of (Some asked) told = told ∙ sym (atom-by t item text plain shows term ∙ told-by-words text term)

@@ -317,6 +317,7 @@ way-over t order way over ordered all only = record {
   stops = over.stops;
   index = over.index;
   lends = λ not_any dir. none-lent not_any dir (is_semantic t dir) refl;
+  leaning = over.leaning;
 }
   where
     none-lent : way.lends ≡ false → (dir : ℕ) (b : Bool) → is_semantic t dir ≡ b → lenders t dir ≡ []

@@ -2,4 +2,5 @@ pub mod Past
 pub mod Ways
 pub mod Steps
 pub mod Anew
+pub mod Fitted
 pub mod Moves

@@ -1,22 +1,25 @@
 //! All links of a state, found from nothing.
-ghost use Rattle.std.specs.Prelude.{◌≡◌, ◌≤◌, ◌+◌, IfOk, OnOk, if◌then◌else◌};
+ghost use Rattle.std.specs.Prelude.{◌≡◌, ◌≤◌, ◌+◌, IfOk, OnOk, Some, if◌then◌else◌};
 ghost use Rattle.hac_model.specs.Tree.Costs.{opening, weight};
-ghost use Rattle.hac_model.specs.Tree.Links.{has, is_item, transient_at};
+ghost use Rattle.hac_model.specs.Tree.Links.{atom, has, is_item, shown_of, transient_at};
 ghost use Rattle.reeval.specs.Probes.{terms_along};
 ghost use Rattle.reeval.specs.Routes.{Covers};
 ghost use Rattle.reeval.specs.Settled.{AreLinksOf};
 ghost use Rattle.reindex.specs.Anew.{AreAllNews, AreLinksBelow, LendsNothing, unjudged_state};
+ghost use Rattle.reindex.specs.Steps.{indexed_through};
 ghost use Rattle.reindex.specs.Ways.{IsWayOf};
 
+use crate::fitted::Fitted;
 use crate::indexing::{Indexing, shown_of};
 use crate::lookups::{is_document, is_item, know_lists};
-use crate::texts::stops_for;
+use crate::texts::{fit_of, stops_fitting};
 use crate::unjudged::Unjudged;
 use crate::ways::{FEW_STOPS, Way};
 use hac_model::{Memory, Number};
 use hac_outside::Steps;
 use kept_state::KeptState;
 use link_kinds::Links;
+use query_eval::Atoms;
 use reeval::{Blank, Change, Stop, Verdict, apply, latest, reserve, settle};
 use std::alloc::Global;
 use std::sync::ledger::Ledger;
@@ -147,35 +150,68 @@ fn news_by_words<L: Ledger>(
 {
     kept.know_valid();
     if way.stops.len() <= FEW_STOPS || is_document(kept, item) {
-        return news_along(alloc, kept, way.stops.as_slice(), item, probes);
+        let present = Indexing {
+            kept,
+            last: Number::ROOT,
+        };
+        let stops = way.stops.as_slice();
+        return news_along(alloc, &present, &present, stops, item, probes);
     }
     match shown_of(kept, item) {
-        Some(text) => {
-            let stops = stops_for(alloc, way, None, text)?;
-            news_along(alloc, kept, stops.as_slice(), item, probes)
-        }
+        Some(text) => news_of_text(alloc, kept, way, item, text, probes),
         None => Ok(Vec::new(alloc)),
     }
 }
 
-/// The same, of an item that is judged again wherever a stop says so.
-fn news_along<L: Ledger>(
+/// The same, of a file that shows a text. What the index says of its words is told once.
+fn news_of_text<L: Ledger>(
     alloc: Global,
     kept: &KeptState,
-    stops: &[Stop],
+    way: &Way,
     item: Number,
+    text: &[u8],
     probes: &mut Steps<L>,
 ) -> Result<Vec<Change>, Memory>
+    requires way { IsWayOf kept.now.state way.now }
     requires unlent { LendsNothing kept.now.state }
-    requires way { Covers (unjudged_state kept.now.state) kept.now.state stops.now item }
+    requires shows { shown_of kept.now.state item ≡ Some text.now }
     ensures news { IfOk result (λ news. AreAllNews kept.now.state item news.items) }
-    ensures probes { probes.new ≤ probes.old + terms_along kept.now.state stops.now }
+    ensures probes { probes.new ≤ probes.old + weight kept.now.state }
 {
     kept.know_valid();
+    let fit = fit_of(alloc, &way.index, text)?;
+    let stops = stops_fitting(alloc, way, &fit)?;
     let present = Indexing {
         kept,
         last: Number::ROOT,
     };
-    let unjudged = Unjudged { kept };
-    settle(alloc, &present, &present, &unjudged, stops, item, probes)
+    let fitted = Fitted {
+        indexing: &present,
+        fit: &fit,
+        item,
+    };
+    news_along(alloc, &present, &fitted, stops.as_slice(), item, probes)
+}
+
+/// The same, of an item that is judged again wherever a stop says so.
+fn news_along<A: Atoms, L: Ledger>(
+    alloc: Global,
+    present: &Indexing<'_>,
+    atoms: &A,
+    stops: &[Stop],
+    item: Number,
+    probes: &mut Steps<L>,
+) -> Result<Vec<Change>, Memory>
+    requires present { present.now.last ≡ 0 }
+    requires atoms { A.atoms atoms.now ≡ atom (indexed_through 0 present.now.kept.now.state) }
+    requires unlent { LendsNothing present.now.kept.now.state }
+    requires way { Covers (unjudged_state present.now.kept.now.state) present.now.kept.now.state
+        stops.now item }
+    ensures news { IfOk result (λ news. AreAllNews present.now.kept.now.state item news.items) }
+    ensures probes { probes.new ≤ probes.old
+        + terms_along present.now.kept.now.state stops.now }
+{
+    present.kept.know_valid();
+    let unjudged = Unjudged { kept: present.kept };
+    settle(alloc, present, atoms, &unjudged, stops, item, probes)
 }

@@ -5,6 +5,7 @@
 #![tactic(auto)]
 
 mod anew;
+mod fitted;
 mod indexing;
 pub mod lookups;
 mod moves;

@@ -1,11 +1,12 @@
 //! The files that steps index, which are taken in a batch.
-ghost use Rattle.std.specs.Prelude.{◌≡◌, ◌≤◌, ◌+◌, ◌*◌, ◌++◌, ◌∷◌, [], IfOk, List, OnOk};
-ghost use Rattle.std.specs.Prelude.{length, replicate, ℕ};
+ghost use Rattle.std.specs.Prelude.{◌≡◌, ◌≤◌, ◌+◌, ◌*◌, ◌++◌, ◌∷◌, [], IfOk, IfSome, List, OnOk};
+ghost use Rattle.std.specs.Prelude.{None, Some, length, replicate, ℕ};
 ghost use Rattle.dep_graph.specs.Searches.{EachOnce};
 ghost use Rattle.hac_model.specs.Laws.{AllHappen};
 ghost use Rattle.hac_model.specs.Tree.Costs.{costs, weight};
 ghost use Rattle.hac_model.specs.Tree.Depends.{Among};
 ghost use Rattle.hac_model.specs.Tree.Events.{apply_all, next_dirty};
+ghost use Rattle.hac_model.specs.Tree.Links.{shown_of};
 ghost use Rattle.hac_model.specs.Tree.Valid.{IsValid};
 ghost use Rattle.hac_model.specs.declared.events.Event.TheVariants.{Step};
 ghost use Rattle.reeval.specs.Probes.{terms_along};
@@ -15,9 +16,10 @@ ghost use Rattle.reindex.specs.Past.{Lead};
 ghost use Rattle.reindex.specs.Steps.{AreIndexed, AreSettled, indexed_through};
 ghost use Rattle.reindex.specs.Ways.{IsWayOf};
 
+use crate::fitted::Fitted;
 use crate::indexing::{Indexing, shown_of};
 use crate::past::Past;
-use crate::texts::stops_for;
+use crate::texts::{fit_of, stops_changed, stops_fitting};
 use crate::ways::{FEW_STOPS, Way, stops_of_way};
 use hac_model::{Memory, Number};
 use hac_outside::Steps;
@@ -95,6 +97,92 @@ fn settle_file<L: Ledger>(
         delta.new.items) }
     ensures probes { probes.new ≤ probes.old + weight kept.now.state }
 {
+    let indexing = Indexing { kept, last };
+    match first_text(&indexing, way, file) {
+        Some(text) => settle_first(alloc, kept, found, way, last, file, text, delta, probes),
+        None => settle_again(alloc, kept, found, way, last, file, delta, probes),
+    }
+}
+
+/// The text of a file that is indexed for the first time, if its words are to be listed.
+fn first_text<'a>(indexing: &'a Indexing<'_>, way: &Way, file: Number) -> Option<&'a [u8]>
+    ensures first { IfSome result (λ text. shown_of indexing.now.kept.now.state file ≡ None) }
+    ensures shows { IfSome result (λ text. shown_of
+        (indexed_through indexing.now.last indexing.now.kept.now.state) file ≡ Some text.now) }
+{
+    if way.stops.len() <= FEW_STOPS || shown_of(indexing.kept, file).is_some() {
+        return None;
+    }
+    indexing.shown(file)
+}
+
+/// The same of a file that shows its first text then. What the index says of its words is told
+/// once.
+fn settle_first<L: Ledger>(
+    alloc: Global,
+    kept: &KeptState,
+    found: &Links,
+    way: &Way,
+    last: Number,
+    file: Number,
+    text: &[u8],
+    delta: &mut Vec<Change>,
+    probes: &mut Steps<L>,
+) -> Result<(), Memory>
+    requires links { AreLinksOf kept.now.state found.now }
+    requires way { IsWayOf kept.now.state way.now }
+    requires valid { IsValid (indexed_through last kept.now.state) }
+    requires first { shown_of kept.now.state file ≡ None }
+    requires shows { shown_of (indexed_through last kept.now.state) file ≡ Some text.now }
+    ensures settled { OnOk result ((files : List ℕ) → ¬ Among files file
+        → AreSettled kept.now.state (indexed_through last kept.now.state) files delta.old.items
+        → AreSettled kept.now.state (indexed_through last kept.now.state) (files ++ file ∷ [])
+        delta.new.items) }
+    ensures probes { probes.new ≤ probes.old + weight kept.now.state }
+{
+    kept.know_valid();
+    let indexing = Indexing { kept, last };
+    let past = Past { kept, found };
+    let fit = fit_of(alloc, &way.index, text)?;
+    let stops = stops_fitting(alloc, way, &fit)?;
+    let stops = stops.as_slice();
+    let fitted = Fitted {
+        indexing: &indexing,
+        fit: &fit,
+        item: file,
+    };
+    settle_all(
+        alloc,
+        &indexing,
+        &fitted,
+        &past,
+        stops,
+        &[file],
+        delta,
+        probes,
+    )
+}
+
+/// The same of a file that showed a text, or of one that is judged in each directory.
+fn settle_again<L: Ledger>(
+    alloc: Global,
+    kept: &KeptState,
+    found: &Links,
+    way: &Way,
+    last: Number,
+    file: Number,
+    delta: &mut Vec<Change>,
+    probes: &mut Steps<L>,
+) -> Result<(), Memory>
+    requires links { AreLinksOf kept.now.state found.now }
+    requires way { IsWayOf kept.now.state way.now }
+    requires valid { IsValid (indexed_through last kept.now.state) }
+    ensures settled { OnOk result ((files : List ℕ) → ¬ Among files file
+        → AreSettled kept.now.state (indexed_through last kept.now.state) files delta.old.items
+        → AreSettled kept.now.state (indexed_through last kept.now.state) (files ++ file ∷ [])
+        delta.new.items) }
+    ensures probes { probes.new ≤ probes.old + weight kept.now.state }
+{
     kept.know_valid();
     let indexing = Indexing { kept, last };
     let past = Past { kept, found };
@@ -112,7 +200,8 @@ fn settle_file<L: Ledger>(
     )
 }
 
-/// The way on which a file is judged once it is indexed. Judging begins where its words may tell.
+/// The way on which a file is judged once it is indexed. Where it showed a text, judging begins
+/// where its words may tell.
 fn stops_of(
     alloc: Global,
     indexing: &Indexing<'_>,
@@ -131,9 +220,9 @@ fn stops_of(
     if way.stops.len() <= FEW_STOPS {
         return stops_of_way(alloc, way);
     }
-    match indexing.shown(file) {
-        Some(text) => stops_for(alloc, way, shown_of(indexing.kept, file), text),
-        None => stops_of_way(alloc, way),
+    match (shown_of(indexing.kept, file), indexing.shown(file)) {
+        (Some(old), Some(new)) => stops_changed(alloc, way, old, new),
+        _ => stops_of_way(alloc, way),
     }
 }
 

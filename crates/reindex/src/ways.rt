@@ -1,11 +1,14 @@
 //! The ways on which items are judged again after an event.
-ghost use Rattle.std.specs.Prelude.{◌≡◌, ◌==◌, IfOk, length, map, not};
+ghost use Rattle.std.specs.Prelude.{◌≡◌, ◌==◌, ◌++◌, ◌∷◌, [], ℕ, Bool, IfOk, OnOk, false};
+ghost use Rattle.std.specs.Prelude.{flat_map, length, map, not};
 ghost use Rattle.std.specs.List.{list_any};
 ghost use Rattle.hac_model.specs.Tree.Links.{is_semantic, lenders, query_at};
+ghost use Rattle.hac_model.specs.Tree.Links.{has};
+ghost use Rattle.hac_model.specs.Tree.Valid.{RiseFrom};
+ghost use Rattle.query_index.specs.Numbers.{AreThose};
 ghost use Rattle.query_index.specs.Seen.{IsIndexOf};
-ghost use Rattle.reindex.specs.Ways.{IsWayOf, IsWayOver};
-ghost use Rattle.reindex.specs.Ways.{leans, needed, stops_everywhere, stops_from};
-ghost use Rattle.reindex.specs.Ways.{stops_marked};
+ghost use Rattle.reindex.specs.Ways.{IsWayOf, IsWayOver, any_leans, begins_there, begun_at};
+ghost use Rattle.reindex.specs.Ways.{begun_there, leans, needed, stops_everywhere, stops_from};
 ghost use Rattle.reindex.specs.Ways.{with_first};
 
 use crate::indexing::Indexing;
@@ -24,6 +27,8 @@ pub struct Way {
     pub index: QueryIndex,
     /// Whether directories may have been added to some of them.
     pub lends: bool,
+    /// Whether one of them may depend on another.
+    pub leans: bool,
 }
 
 /// Up to this many directories an item is judged in each: that takes less time than it takes to
@@ -48,11 +53,21 @@ pub fn way_of(alloc: Global, kept: &KeptState) -> Result<Way, Memory>
 pub fn way_over<Y: Layout>(alloc: Global, layout: &Y, order: &[Number]) -> Result<Way, Memory>
     ensures { IfOk result (IsWayOver (Y.state layout.now) order.now) }
 {
+    let stops = stops_everywhere(alloc, layout, order)?;
+    let leans = any_leans(stops.as_slice());
     Ok(Way {
-        stops: stops_everywhere(alloc, layout, order)?,
+        stops,
         index: index_of(alloc, layout, order)?,
         lends: lends_any(layout, order),
+        leans,
     })
+}
+
+/// Whether one of the stops leans on others.
+fn any_leans(stops: &[Stop]) -> bool
+    ensures { result ≡ any_leans stops.now }
+{
+    stops.iter().any(|stop| stop.leans)
 }
 
 /// The queries of directories, each at the place of its directory.
@@ -141,27 +156,77 @@ pub(crate) fn stops_of_way(alloc: Global, way: &Way) -> Result<Vec<Stop>, Memory
     Ok(Vec::from_slice(alloc, way.stops.as_slice())?)
 }
 
-/// The same stops, where judging begins at those that are marked, but for those at which nothing is
+/// The same stops, where judging begins at those of these places, but for those at which nothing is
 /// judged: it doesn't begin there, and they lean on none.
-pub(crate) fn stops_marked(
-    alloc: Global,
-    stops: &[Stop],
-    marks: &[bool],
-) -> Result<Vec<Stop>, Memory>
-    requires { length marks.now ≡ length stops.now }
-    ensures { IfOk result (λ marked. marked.items ≡ needed (stops_marked stops.now marks.now)) }
+pub(crate) fn stops_begun(alloc: Global, way: &Way, places: &[usize]) -> Result<Vec<Stop>, Memory>
+    requires leans { way.now.leans ≡ any_leans way.now.stops.items }
+    requires rise { RiseFrom 0 places.now }
+    ensures { (begins : ℕ → Bool)
+        → AreThose (begins_there begins way.now.stops.items) places.now
+        → IfOk result (λ begun. begun.items ≡ needed (begun_at begins way.now.stops.items)) }
 {
-    let mut marked = Vec::new(alloc);
-    for place in 0..stops.len() {
-        let begins = marks[place];
-        if begins || stops[place].leans {
-            marked.push(Stop {
-                begins,
-                ..stops[place]
-            })?;
-        }
+    if way.leans {
+        stops_needed(alloc, way.stops.as_slice(), places)
+    } else {
+        stops_there(alloc, way.stops.as_slice(), places)
     }
-    Ok(marked)
+}
+
+/// They are those of the places, where none leans on others.
+fn stops_there(alloc: Global, stops: &[Stop], places: &[usize]) -> Result<Vec<Stop>, Memory>
+    ensures { IfOk result (λ begun. begun.items ≡ flat_map (begun_there stops.now) places.now) }
+{
+    let mut begun = Vec::new(alloc);
+    for place in places {
+        add_begun(stops, *place, &mut begun)?;
+    }
+    Ok(begun)
+}
+
+/// Adds the stop of a place, if there is one. Judging begins there.
+fn add_begun(stops: &[Stop], place: usize, begun: &mut Vec<Stop>) -> Result<(), Memory>
+    ensures { OnOk result (begun.new.items ≡ begun.old.items ++ begun_there stops.now place) }
+{
+    match stops.get(place) {
+        Some(stop) => begun.push(Stop {
+            begins: true,
+            ..*stop
+        })?,
+        None => {}
+    }
+    Ok(())
+}
+
+/// They are those, and others that lean.
+fn stops_needed(alloc: Global, stops: &[Stop], places: &[usize]) -> Result<Vec<Stop>, Memory>
+    requires { RiseFrom 0 places.now }
+    ensures { (begins : ℕ → Bool) → AreThose (begins_there begins stops.now) places.now
+        → IfOk result (λ begun. begun.items ≡ needed (begun_at begins stops.now)) }
+{
+    let mut begun = Vec::new(alloc);
+    for place in 0..stops.len() {
+        add_needed(stops[place], is_among(place, places), &mut begun)?;
+    }
+    Ok(begun)
+}
+
+/// Whether a place is among some that are in order.
+fn is_among(place: usize, places: &[usize]) -> bool
+    requires { RiseFrom 0 places.now }
+    ensures { result ≡ has places.now place }
+{
+    places.binary_search(&place).is_ok()
+}
+
+/// Adds a stop if it is needed.
+fn add_needed(stop: Stop, begins: bool, begun: &mut Vec<Stop>) -> Result<(), Memory>
+    ensures { OnOk result (begun.new.items
+        ≡ begun.old.items ++ needed (record stop { begins = begins } ∷ [])) }
+{
+    if begins || stop.leans {
+        begun.push(Stop { begins, ..stop })?;
+    }
+    Ok(())
 }
 
 /// Directories, with one in front if it isn't among them.

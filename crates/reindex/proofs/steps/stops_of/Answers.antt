@@ -10,39 +10,41 @@ use Rattle.reindex.proofs.TextLemmas.{covered-anyway-if, covered-if}
 use Rattle.reindex.proofs.WayLemmas.{dirs-way}
 use Rattle.reindex.proofs.steps.stops_of.Goals as goal
 
-pub returns-in-Some-clause-covers : goal.returns-in-Some-clause-covers
-returns-in-Some-clause-covers c =
+pub returns-in-Some-Some-clause-covers : goal.returns-in-Some-Some-clause-covers
+returns-in-Some-Some-clause-covers c =
     let s = c.args.indexing.now.kept.now.state in
     let last = c.args.indexing.now.last in
     let w = c.requires.way in
-    let shows : shown_of (indexed_through last s) c.args.file ≡ Some c.in-Some.text.now = sym c.shown.ensures ∙ ap option_copied c.in-Some.is in
-    covered-if s last c.args.file c.in-Some.text.now shows c.args.way.now w c.know_valid.ensures c.requires.valid c.stops_for.result
-    (subst (λ (old : Option (List ℕ)). IfOk c.stops_for.result (λ stops. stops.items ≡ needed (begun_at (may_begin s old c.in-Some.text.now) c.args.way.now.stops.items))) c.shown_of.ensures
-    (c.stops_for.ensures s (subst (λ (dirs : List ℕ). IsIndexOf (map (query_at s) dirs) c.args.way.now.index) (sym (dirs-way s c.args.way.now w)) w.index)))
+    let new = c.in-Some-Some.new.now in
+    let had : shown_of s c.args.file ≡ Some c.in-Some-Some.old.now = sym c.shown_of.ensures ∙ ap option_copied c.in-Some-Some.is-0 in
+    let shows : shown_of (indexed_through last s) c.args.file ≡ Some new = sym c.shown.ensures ∙ ap option_copied c.in-Some-Some.is-1 in
+    covered-if s last c.args.file new shows c.args.way.now w c.know_valid.ensures c.requires.valid c.stops_changed.result
+    (subst (λ (old : Option (List ℕ)). IfOk c.stops_changed.result (λ stops. stops.items ≡ needed (begun_at (may_begin s old new) c.args.way.now.stops.items))) (sym had)
+    (c.stops_changed.ensures s (subst (λ (dirs : List ℕ). IsIndexOf (map (query_at s) dirs) c.args.way.now.index) (sym (dirs-way s c.args.way.now w)) w.index)))
 
 pub returns-then-len-le-FEW_STOPS-clause-covers : goal.returns-then-len-le-FEW_STOPS-clause-covers
 returns-then-len-le-FEW_STOPS-clause-covers c =
     covered-anyway-if c.args.indexing.now.kept.now.state c.args.indexing.now.last c.args.file c.args.way.now c.requires.way c.know_valid.ensures c.requires.valid c.stops_of_way.result c.stops_of_way.ensures
 
-pub returns-in-None-clause-covers : goal.returns-in-None-clause-covers
-returns-in-None-clause-covers c =
-    covered-anyway-if c.args.indexing.now.kept.now.state c.args.indexing.now.last c.args.file c.args.way.now c.requires.way c.know_valid.ensures c.requires.valid c.stops_of_way-in-None.result c.stops_of_way-in-None.ensures
+pub returns-in_default-clause-covers : goal.returns-in_default-clause-covers
+returns-in_default-clause-covers c =
+    covered-anyway-if c.args.indexing.now.kept.now.state c.args.indexing.now.last c.args.file c.args.way.now c.requires.way c.know_valid.ensures c.requires.valid c.stops_of_way-in_default.result c.stops_of_way-in_default.ensures
 
-pub returns-in-Some-clause-most : goal.returns-in-Some-clause-most
-returns-in-Some-clause-most c =
+pub returns-in-Some-Some-clause-most : goal.returns-in-Some-Some-clause-most
+returns-in-Some-Some-clause-most c =
     let s = c.args.indexing.now.kept.now.state in
     let way = c.args.way.now in
     let w = c.requires.way in
-    let begins = may_begin s (option_copied c.shown_of.result) c.in-Some.text.now in
-    indexed-most s c.args.indexing.now.last (needed (begun_at begins way.stops.items)) c.stops_for.result (along-needed s way w c.know_valid.ensures begins)
-    (c.stops_for.ensures s (subst (λ (dirs : List ℕ). IsIndexOf (map (query_at s) dirs) way.index) (sym (dirs-way s way w)) w.index))
+    let begins = may_begin s (Some c.in-Some-Some.old.now) c.in-Some-Some.new.now in
+    indexed-most s c.args.indexing.now.last (needed (begun_at begins way.stops.items)) c.stops_changed.result (along-needed s way w c.know_valid.ensures begins)
+    (c.stops_changed.ensures s (subst (λ (dirs : List ℕ). IsIndexOf (map (query_at s) dirs) way.index) (sym (dirs-way s way w)) w.index))
 
 pub returns-then-len-le-FEW_STOPS-clause-most : goal.returns-then-len-le-FEW_STOPS-clause-most
 returns-then-len-le-FEW_STOPS-clause-most c =
     let s = c.args.indexing.now.kept.now.state in
     indexed-most s c.args.indexing.now.last c.args.way.now.stops.items c.stops_of_way.result (along-way s c.args.way.now c.requires.way c.know_valid.ensures) c.stops_of_way.ensures
 
-pub returns-in-None-clause-most : goal.returns-in-None-clause-most
-returns-in-None-clause-most c =
+pub returns-in_default-clause-most : goal.returns-in_default-clause-most
+returns-in_default-clause-most c =
     let s = c.args.indexing.now.kept.now.state in
-    indexed-most s c.args.indexing.now.last c.args.way.now.stops.items c.stops_of_way-in-None.result (along-way s c.args.way.now c.requires.way c.know_valid.ensures) c.stops_of_way-in-None.ensures
+    indexed-most s c.args.indexing.now.last c.args.way.now.stops.items c.stops_of_way-in_default.result (along-way s c.args.way.now c.requires.way c.know_valid.ensures) c.stops_of_way-in_default.ensures
