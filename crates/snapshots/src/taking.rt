@@ -15,6 +15,7 @@ use hac_model::{
 };
 use kept_state::KeptState;
 use std::alloc::Global;
+use tiered_list::Items;
 
 /// What is stored of a state. Where its sessions stand is left out. It copies the texts.
 pub fn snapshot(alloc: Global, kept: &KeptState) -> Result<Snapshot, Memory>
@@ -83,17 +84,17 @@ fn documents(alloc: Global, kept: &KeptState, mount: Number) -> Result<Vec<Docum
 {
     let tree = kept.tree();
     tree.know_layout();
-    documents_among(alloc, tree, tree.children(mount))
+    documents_among(alloc, tree, &tree.children(mount))
 }
 
 /// The documents that have one of these numbers.
-fn documents_among(alloc: Global, tree: &Tree, numbers: &[Number]) -> Result<Vec<Document>, Memory>
+fn documents_among(alloc: Global, tree: &Tree, numbers: &Items) -> Result<Vec<Document>, Memory>
     ensures { IfOk result (λ documents. documents.items
         ≡ flat_map (document_at tree.now.state) numbers.now) }
 {
     let mut documents = Vec::new(alloc);
-    'numbers: for number in numbers {
-        push_document(&mut documents, tree, *number)?;
+    'numbers: for place in 0..numbers.len() {
+        push_document(&mut documents, tree, numbers.at(place))?;
     }
     Ok(documents)
 }

@@ -1,7 +1,8 @@
 //! The list. All full runs have one length, so a place is found by a division; what is behind them
-//! is the tail. Where a number comes in or goes out, each run behind it passes one on to the next: a
-//! long list costs as many steps as it has runs, and one that is no longer than a run has none.
-ghost use Rattle.std.specs.Prelude.{◌≡◌, ◌+◌, ◌<◌, ◌≤◌, ◌++◌, ◌⊎◌, [], insert, length, remove, OnOk};
+//! is the tail. Where a number comes in or goes out, each run behind it passes one on to the next:
+//! a long list costs as many steps as it has runs, and one that is no longer than a run has none.
+ghost use Rattle.std.specs.Prelude.{◌≡◌, ◌+◌, ◌<◌, ◌≤◌, ◌++◌, ◌⊎◌, [], OnOk};
+ghost use Rattle.std.specs.Prelude.{insert, length, remove};
 ghost use Rattle.std.specs.List.{concat};
 ghost use Rattle.tiered_list.specs.Runs.{AreFew, AreFull};
 
