@@ -11,7 +11,7 @@ use Rattle.hac_model.specs.Query.Words.{has_term, is_asked, rising_words, words}
 use Rattle.hac_model.specs.Tree.Depends.{depends}
 use Rattle.hac_model.specs.Tree.Links.{atom, has, holds, kept_at, parent_of, provide, query_at, shown_of}
 use Rattle.hac_model.specs.Tree.Valid.{IsValid}
-use Rattle.hac_model.specs.Tree.{body_at, is_document, is_document_at, shown_text}
+use Rattle.hac_model.specs.Tree.{body_at, is_document, is_document_at, is_linkable, shown_text}
 use Rattle.hac_model.specs.declared.memory.Memory.{Memory}
 use Rattle.hac_model.specs.declared.states.Body.{Body}
 use Rattle.hac_model.specs.declared.states.Body.TheVariants.{File, Dir, Symlink, Semantic, Mount, Document}
@@ -25,6 +25,7 @@ use Rattle.reeval.specs.Routes.{Covers}
 use Rattle.reeval.specs.declared.settling.Stop.{Stop}
 use Rattle.reeval.proofs.AlikeLemmas.{judge-across, none-across, unfound-across}
 use Rattle.reeval.proofs.JudgeLemmas.{links-judged}
+use Rattle.reindex.specs.Fitted.{TellsItem}
 use Rattle.reindex.specs.Steps.{indexed_through, may_begin, may_differ}
 use Rattle.reindex.specs.Ways.{IsWayOf, begun_at, leans, needed}
 use Rattle.reindex.specs.declared.ways.Way.{Way}
@@ -147,14 +148,27 @@ pub covered-anyway-if : (s : State) (last file : ℕ) (way : Way) → IsWayOf s 
 covered-anyway-if s last file way w before after (Ok stops) is = subst (λ (items : List Stop). Covers s (indexed_through last s) items file) (sym is) (covered-anyway s last file way w before after)
 covered-anyway-if s last file way w before after (Err memory) is = tt
 
--- what the index says of the words of a text that an item shows, the state says of its terms
-pub fit-tells : (queries : List (Option (Formula ℕ))) (fit : Fitting) (t : State) (item : ℕ) (text : List ℕ) → shown_of t item ≡ Some text → IsFitOf queries (words text) fit →
-    (term : Term) → IfSome (answer_of fit term) (λ has. has ≡ atom t term item)
-fit-tells queries fit t item text shows is term = of (answer_of fit term) (is.answers term)
+-- what shows a text is an item
+shown-item : (o : Option Body) (text : List ℕ) → option_and_then shown_text o ≡ Some text → option_map_or is_linkable o false ≡ true
+shown-item None text h = absurd cc
+shown-item (Some (File written dirty shown)) text h = refl
+shown-item (Some Dir) text h = absurd cc
+shown-item (Some (Symlink target)) text h = absurd cc
+shown-item (Some (Semantic query permanent prohibited)) text h = absurd cc
+shown-item (Some (Mount space answers)) text h = absurd cc
+shown-item (Some Document) text h = absurd cc
+
+-- queries judge it, and what the index says of the words of the text, the state says of its terms
+pub fit-tells : (queries : List (Option (Formula ℕ))) (fit : Fitting) (t : State) (item : ℕ) (text : List ℕ) → shown_of t item ≡ Some text → IsFitOf queries (words text) fit → TellsItem t item fit
+fit-tells queries fit t item text shows is = record {
+  there = shown-item (body_at t.entries item) text shows;
+  judged = λ i. plain i || is_some (shows i);
+  terms = λ term. of term (answer_of fit term) (is.answers term);
+}
   where
     plain : is_document_at t.entries item ≡ false
     plain = text-no-document (body_at t.entries item) text shows
 
-    of : (o : Option Bool) → IfSome o (λ asked. asked ≡ list_any (is_asked term) (words text)) → IfSome o (λ has. has ≡ atom t term item)
-    of None told = tt
-    of (Some asked) told = told ∙ sym (atom-by t item text plain shows term ∙ told-by-words text term)
+    of : (term : Term) (o : Option Bool) → IfSome o (λ asked. asked ≡ list_any (is_asked term) (words text)) → IfSome o (λ has. has ≡ atom t term item)
+    of term None told = tt
+    of term (Some asked) told = told ∙ sym (atom-by t item text plain shows term ∙ told-by-words text term)

@@ -16,6 +16,7 @@ use Rattle.hac_model.specs.declared.states.Body.TheVariants.{File, Dir, Symlink,
 use Rattle.hac_model.specs.declared.states.Entry.{Entry}
 use Rattle.hac_model.specs.declared.memory.Memory.{Memory}
 use Rattle.hac_model.specs.declared.states.State.{State}
+use Rattle.query_index.specs.Seen.{IsIndexOf}
 use Rattle.reeval.specs.Judging.{AreJudged, LeavesAlike, TiesAlike}
 use Rattle.reeval.specs.Routes.{Covers, IsRoute, begins_at, dirs_of, ties_at}
 use Rattle.reeval.proofs.AlikeLemmas.{touched-leave}
@@ -344,3 +345,7 @@ begun-way s way w begins = ap (begun_at begins) w.stops ∙ begun-stops begins (
 -- and its directories
 pub dirs-way : (s : State) (way : Way) (w : IsWayOf s way) → dirs_of way.stops.items ≡ w.order
 dirs-way s way w = ap dirs_of w.stops ∙ dirs-at (λ dir. true) (leans s) w.order
+
+-- its queries are those of the directories at its stops
+pub index-way : (s : State) (way : Way) → IsWayOf s way → IsIndexOf (map (query_at s) (dirs_of way.stops.items)) way.index
+index-way s way w = subst (λ (dirs : List ℕ). IsIndexOf (map (query_at s) dirs) way.index) (sym (dirs-way s way w)) w.index

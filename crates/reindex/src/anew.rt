@@ -6,7 +6,6 @@ ghost use Rattle.reeval.specs.Probes.{terms_along};
 ghost use Rattle.reeval.specs.Routes.{Covers};
 ghost use Rattle.reeval.specs.Settled.{AreLinksOf};
 ghost use Rattle.reindex.specs.Anew.{AreAllNews, AreLinksBelow, LendsNothing, unjudged_state};
-ghost use Rattle.reindex.specs.Steps.{indexed_through};
 ghost use Rattle.reindex.specs.Ways.{IsWayOf};
 
 use crate::fitted::Fitted;
@@ -20,7 +19,7 @@ use hac_outside::Steps;
 use kept_state::KeptState;
 use link_kinds::Links;
 use query_eval::Atoms;
-use reeval::{Blank, Change, Stop, Verdict, apply, latest, reserve, settle};
+use reeval::{Blank, Change, Layout, Stop, Verdict, apply, latest, reserve, settle};
 use std::alloc::Global;
 use std::sync::ledger::Ledger;
 
@@ -155,7 +154,7 @@ fn news_by_words<L: Ledger>(
             last: Number::ROOT,
         };
         let stops = way.stops.as_slice();
-        return news_along(alloc, &present, &present, stops, item, probes);
+        return news_along(alloc, kept, &present, &present, stops, item, probes);
     }
     match shown_of(kept, item) {
         Some(text) => news_of_text(alloc, kept, way, item, text, probes),
@@ -190,28 +189,34 @@ fn news_of_text<L: Ledger>(
         fit: &fit,
         item,
     };
-    news_along(alloc, &present, &fitted, stops.as_slice(), item, probes)
+    news_along(
+        alloc,
+        kept,
+        &fitted,
+        &fitted,
+        stops.as_slice(),
+        item,
+        probes,
+    )
 }
 
 /// The same, of an item that is judged again wherever a stop says so.
-fn news_along<A: Atoms, L: Ledger>(
+fn news_along<Y: Layout, A: Atoms, L: Ledger>(
     alloc: Global,
-    present: &Indexing<'_>,
+    kept: &KeptState,
+    layout: &Y,
     atoms: &A,
     stops: &[Stop],
     item: Number,
     probes: &mut Steps<L>,
 ) -> Result<Vec<Change>, Memory>
-    requires present { present.now.last ≡ 0 }
-    requires atoms { A.atoms atoms.now ≡ atom (indexed_through 0 present.now.kept.now.state) }
-    requires unlent { LendsNothing present.now.kept.now.state }
-    requires way { Covers (unjudged_state present.now.kept.now.state) present.now.kept.now.state
-        stops.now item }
-    ensures news { IfOk result (λ news. AreAllNews present.now.kept.now.state item news.items) }
-    ensures probes { probes.new ≤ probes.old
-        + terms_along present.now.kept.now.state stops.now }
+    requires layout { Y.state layout.now ≡ kept.now.state }
+    requires atoms { A.atoms atoms.now ≡ atom kept.now.state }
+    requires unlent { LendsNothing kept.now.state }
+    requires way { Covers (unjudged_state kept.now.state) kept.now.state stops.now item }
+    ensures news { IfOk result (λ news. AreAllNews kept.now.state item news.items) }
+    ensures probes { probes.new ≤ probes.old + terms_along kept.now.state stops.now }
 {
-    present.kept.know_valid();
-    let unjudged = Unjudged { kept: present.kept };
-    settle(alloc, present, atoms, &unjudged, stops, item, probes)
+    let unjudged = Unjudged { kept };
+    settle(alloc, layout, atoms, &unjudged, stops, item, probes)
 }

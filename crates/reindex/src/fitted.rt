@@ -1,17 +1,18 @@
-//! Which terms items have, where it is known of one item what its words say.
+//! A state in which it is known of one item what its words say.
 ghost use Rattle.std.specs.Prelude.{◌≡◌, ◌+◌, IfSome};
 ghost use Rattle.hac_model.specs.Tree.Links.{atom};
 
 use crate::indexing::Indexing;
-use hac_model::{Number, Term};
+use hac_model::{Number, Query, Term};
 use hac_outside::Steps;
 use query_eval::Atoms;
 use query_index::Fit;
+use reeval::Layout;
 use std::marker::Model;
 use std::sync::ledger::Ledger;
 
-/// A state, and what an index says of the words of one of its items. What the index knows isn't
-/// looked for in the text again.
+/// A state, and what an index says of the words of one of its items, which queries judge. What is
+/// known of that item isn't looked up again, nor is its text searched for what the index knows.
 #[derive(Drop)]
 pub(crate) struct Fitted<'a> {
     pub(crate) indexing: &'a Indexing<'a>,
@@ -27,11 +28,11 @@ impl<'a> Model for Fitted<'a> {
 
     ghost coded = { state.the_row.coded };
 
-    ghost use Rattle.reindex.specs.Fitted.{state_of_fitted, TellsTerms};
+    ghost use Rattle.reindex.specs.Fitted.{state_of_fitted, IsFitted};
 
     ghost view = { state_of_fitted };
 
-    ghost invariant = { TellsTerms };
+    ghost invariant = { IsFitted };
 }
 
 impl<'a> Fitted<'a> {
@@ -44,6 +45,46 @@ impl<'a> Fitted<'a> {
         } else {
             None
         }
+    }
+}
+
+impl<'a> Layout for Fitted<'a> {
+    ghost state = { λ fitted. fitted };
+
+    fn is_item(&self, number: Number) -> bool {
+        number == self.item || self.indexing.is_item(number)
+    }
+
+    fn is_judged(&self, item: Number) -> bool {
+        item == self.item || self.indexing.is_judged(item)
+    }
+
+    fn is_below(&self, item: Number, dir: Number) -> bool {
+        self.indexing.is_below(item, dir)
+    }
+
+    fn parent(&self, entry: Number) -> Number {
+        self.indexing.parent(entry)
+    }
+
+    fn query(&self, dir: Number) -> Option<&Query<Number>> {
+        self.indexing.query(dir)
+    }
+
+    fn is_added(&self, dir: Number, item: Number) -> bool {
+        self.indexing.is_added(dir, item)
+    }
+
+    fn is_unmarked(&self, dir: Number, item: Number) -> bool {
+        self.indexing.is_unmarked(dir, item)
+    }
+
+    fn lenders(&self, dir: Number) -> &[Number] {
+        self.indexing.lenders(dir)
+    }
+
+    fn depends(&self, dir: Number) -> &[Number] {
+        self.indexing.depends(dir)
     }
 }
 

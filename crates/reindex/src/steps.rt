@@ -153,7 +153,7 @@ fn settle_first<L: Ledger>(
     };
     settle_all(
         alloc,
-        &indexing,
+        &fitted,
         &fitted,
         &past,
         stops,

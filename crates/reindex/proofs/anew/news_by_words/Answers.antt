@@ -1,11 +1,13 @@
 use Rattle.std.proofs.Common.{◌≡◌, List, ap, arith, subst, sym, ◌∙◌}
 use Rattle.std.specs.Prelude.{◌||◌, is_some}
 use Rattle.std.specs.Option.{option_copied}
+use Rattle.hac_model.specs.Tree.Links.{atom}
 use Rattle.reeval.specs.Probes.{terms_along}
 use Rattle.reeval.specs.Routes.{Covers}
 use Rattle.reeval.specs.declared.settling.Stop.{Stop}
 use Rattle.reindex.specs.Anew.{unjudged_state}
 use Rattle.reindex.proofs.AnewLemmas.{news-of-unjudged}
+use Rattle.reindex.proofs.IndexedLemmas.{indexed-none}
 use Rattle.reindex.proofs.ProbeLemmas.{along-way}
 use Rattle.reindex.proofs.UnjudgedLemmas.{covers-anywhere}
 use Rattle.reindex.proofs.anew.news_by_words.Goals as goal
@@ -29,3 +31,9 @@ returns-then-len-le-FEW_STOPS-clause-probes g c =
     let same : terms_along s c.as_slice-stops.result.now ≡ terms_along s c.args.way.now.stops.items = ap (terms_along s) c.as_slice-stops.ensures.value in
     let few = along-way s c.args.way.now c.requires.way c.know_valid.ensures in
     omega (arith, most, same, few)
+
+pub news_along-requires-clause-layout : goal.news_along-requires-clause-layout
+news_along-requires-clause-layout g c = indexed-none c.args.kept.now.state c.know_valid.ensures.layout
+
+pub news_along-requires-clause-atoms : goal.news_along-requires-clause-atoms
+news_along-requires-clause-atoms g c = ap atom (indexed-none c.args.kept.now.state c.know_valid.ensures.layout)

@@ -1,9 +1,9 @@
-use Rattle.std.proofs.Common.{◌≡◌, ℕ, List, ap, arith, subst, sym, ◌∙◌}
+use Rattle.std.proofs.Common.{◌≡◌, List, ap, arith, subst, sym, ◌∙◌}
 use Rattle.std.specs.Prelude.{None, Some, map}
 use Rattle.hac_model.specs.Query.Words.{words}
-use Rattle.hac_model.specs.Tree.Links.{query_at, shown_of}
+use Rattle.hac_model.specs.Tree.Links.{atom, query_at, shown_of}
 use Rattle.hac_model.specs.declared.states.State.{State}
-use Rattle.query_index.specs.Seen.{IsFitOf, IsIndexOf}
+use Rattle.query_index.specs.Seen.{IsFitOf}
 use Rattle.reeval.specs.Probes.{terms_along}
 use Rattle.reeval.specs.Routes.{Covers, dirs_of}
 use Rattle.reeval.specs.declared.settling.Stop.{Stop}
@@ -14,7 +14,7 @@ use Rattle.reindex.proofs.IndexedLemmas.{indexed-none}
 use Rattle.reindex.proofs.ProbeLemmas.{along-needed}
 use Rattle.reindex.proofs.TextLemmas.{fit-tells}
 use Rattle.reindex.proofs.UnjudgedLemmas.{covers-first}
-use Rattle.reindex.proofs.WayLemmas.{dirs-way}
+use Rattle.reindex.proofs.WayLemmas.{index-way}
 use Rattle.reindex.proofs.anew.news_of_text.Goals as goal
 
 pub stops_fitting-requires : goal.stops_fitting-requires
@@ -25,7 +25,7 @@ stops_fitting-requires g c =
       s,
       c.args.text.now,
       w,
-      c.in_ok-fit.ensures (map (query_at s) (dirs_of way.stops.items)) (subst (λ (dirs : List ℕ). IsIndexOf (map (query_at s) dirs) way.index) (sym (dirs-way s way w)) w.index),
+      c.in_ok-fit.ensures (map (query_at s) (dirs_of way.stops.items)) (index-way s way w),
     )
 
 pub invariant_of-fitted : goal.invariant_of-fitted
@@ -43,7 +43,7 @@ news_along-requires-clause-way g c =
     let w = c.requires.way in
     let text = c.args.text.now in
     let fit : IsFitOf (map (query_at s) (dirs_of way.stops.items)) (words text) c.in_ok-fit.fit =
-    c.in_ok-fit.ensures (map (query_at s) (dirs_of way.stops.items)) (subst (λ (dirs : List ℕ). IsIndexOf (map (query_at s) dirs) way.index) (sym (dirs-way s way w)) w.index) in
+    c.in_ok-fit.ensures (map (query_at s) (dirs_of way.stops.items)) (index-way s way w) in
     subst (λ (stops : List Stop). Covers (unjudged_state s) s stops c.args.item) (sym (c.as_slice.ensures.value ∙ c.in_ok-stops.ensures s text fit))
     (covers-first s c.requires.unlent c.args.item text c.requires.shows c.know_valid.ensures way w)
 
@@ -55,7 +55,13 @@ returns-clause-probes g c =
     let begins = may_begin s None c.args.text.now in
     let most = c.news_along.ensures.probes in
     let fit : IsFitOf (map (query_at s) (dirs_of way.stops.items)) (words c.args.text.now) c.in_ok-fit.fit =
-    c.in_ok-fit.ensures (map (query_at s) (dirs_of way.stops.items)) (subst (λ (dirs : List ℕ). IsIndexOf (map (query_at s) dirs) way.index) (sym (dirs-way s way w)) w.index) in
+    c.in_ok-fit.ensures (map (query_at s) (dirs_of way.stops.items)) (index-way s way w) in
     let same : terms_along s c.as_slice.result.now ≡ terms_along s (needed (begun_at begins way.stops.items)) = ap (terms_along s) (c.as_slice.ensures.value ∙ c.in_ok-stops.ensures s c.args.text.now fit) in
     let few = along-needed s way w c.know_valid.ensures begins in
     omega (arith, most, same, few)
+
+pub news_along-requires-clause-layout : goal.news_along-requires-clause-layout
+news_along-requires-clause-layout g c = indexed-none c.args.kept.now.state c.know_valid.ensures.layout
+
+pub news_along-requires-clause-atoms : goal.news_along-requires-clause-atoms
+news_along-requires-clause-atoms g c = ap atom (indexed-none c.args.kept.now.state c.know_valid.ensures.layout)

@@ -2,7 +2,7 @@ use Rattle.std.proofs.Common.{◌≡◌, ℕ, List, ap, arith, refl, subst, sym,
 use Rattle.std.specs.Prelude.{None, Option, map}
 use Rattle.hac_model.specs.Query.Words.{words}
 use Rattle.hac_model.specs.Tree.Links.{query_at}
-use Rattle.query_index.specs.Seen.{IsFitOf, IsIndexOf}
+use Rattle.query_index.specs.Seen.{IsFitOf}
 use Rattle.reeval.specs.Probes.{terms_along}
 use Rattle.reeval.specs.Routes.{Covers, dirs_of}
 use Rattle.reeval.specs.declared.settling.Stop.{Stop}
@@ -12,7 +12,7 @@ use Rattle.reindex.proofs.BatchLemmas.{settled-if}
 use Rattle.reindex.proofs.ProbeLemmas.{along-indexed, along-needed}
 use Rattle.reindex.proofs.NeededLemmas.{covers-needed}
 use Rattle.reindex.proofs.TextLemmas.{covered-text, fit-tells}
-use Rattle.reindex.proofs.WayLemmas.{dirs-way}
+use Rattle.reindex.proofs.WayLemmas.{index-way}
 use Rattle.reindex.proofs.steps.settle_first.Goals as goal
 
 pub stops_fitting-requires : goal.stops_fitting-requires
@@ -23,7 +23,7 @@ stops_fitting-requires g c =
       s,
       c.args.text.now,
       w,
-      c.in_ok-fit.ensures (map (query_at s) (dirs_of way.stops.items)) (subst (λ (dirs : List ℕ). IsIndexOf (map (query_at s) dirs) way.index) (sym (dirs-way s way w)) w.index),
+      c.in_ok-fit.ensures (map (query_at s) (dirs_of way.stops.items)) (index-way s way w),
     )
 
 pub invariant_of-fitted : goal.invariant_of-fitted
@@ -43,7 +43,7 @@ returns-clause-settled g c =
     let text = c.args.text.now in
     let stops = c.as_slice-stops.result.now in
     let fit : IsFitOf (map (query_at s) (dirs_of way.stops.items)) (words text) c.in_ok-fit.fit =
-    c.in_ok-fit.ensures (map (query_at s) (dirs_of way.stops.items)) (subst (λ (dirs : List ℕ). IsIndexOf (map (query_at s) dirs) way.index) (sym (dirs-way s way w)) w.index) in
+    c.in_ok-fit.ensures (map (query_at s) (dirs_of way.stops.items)) (index-way s way w) in
     let begun : Covers s t (begun_at (may_begin s None text) way.stops.items) c.args.file =
     subst (λ (old : Option (List ℕ)). Covers s t (begun_at (may_begin s old text) way.stops.items) c.args.file) c.requires.first
     (covered-text s last c.args.file text c.requires.shows way w c.know_valid.ensures c.requires.valid) in
@@ -60,7 +60,7 @@ returns-clause-probes g c =
     let begins = may_begin s None c.args.text.now in
     let most = c.settle_all.ensures.most in
     let fit : IsFitOf (map (query_at s) (dirs_of way.stops.items)) (words c.args.text.now) c.in_ok-fit.fit =
-    c.in_ok-fit.ensures (map (query_at s) (dirs_of way.stops.items)) (subst (λ (dirs : List ℕ). IsIndexOf (map (query_at s) dirs) way.index) (sym (dirs-way s way w)) w.index) in
+    c.in_ok-fit.ensures (map (query_at s) (dirs_of way.stops.items)) (index-way s way w) in
     let same : terms_along t c.as_slice-stops.result.now ≡ terms_along s (needed (begun_at begins way.stops.items)) =
     along-indexed c.args.last s c.as_slice-stops.result.now ∙ ap (terms_along s) (c.as_slice-stops.ensures.value ∙ c.in_ok-stops.ensures s c.args.text.now fit) in
     let few = along-needed s way w c.know_valid.ensures begins in

@@ -1,13 +1,12 @@
 use Rattle.std.proofs.Common.{◌≡◌, ℕ, List, ap, subst, sym, ◌∙◌}
-use Rattle.std.specs.Prelude.{IfOk, Option, Some, map}
+use Rattle.std.specs.Prelude.{IfOk, Option, Some}
 use Rattle.std.specs.Option.{option_copied}
-use Rattle.hac_model.specs.Tree.Links.{query_at, shown_of}
-use Rattle.query_index.specs.Seen.{IsIndexOf}
+use Rattle.hac_model.specs.Tree.Links.{shown_of}
 use Rattle.reindex.specs.Steps.{indexed_through, may_begin}
 use Rattle.reindex.specs.Ways.{begun_at, needed}
 use Rattle.reindex.proofs.ProbeLemmas.{along-needed, along-way, indexed-most}
 use Rattle.reindex.proofs.TextLemmas.{covered-anyway-if, covered-if}
-use Rattle.reindex.proofs.WayLemmas.{dirs-way}
+use Rattle.reindex.proofs.WayLemmas.{index-way}
 use Rattle.reindex.proofs.steps.stops_of.Goals as goal
 
 pub returns-in-Some-Some-clause-covers : goal.returns-in-Some-Some-clause-covers
@@ -20,7 +19,7 @@ returns-in-Some-Some-clause-covers c =
     let shows : shown_of (indexed_through last s) c.args.file ≡ Some new = sym c.shown.ensures ∙ ap option_copied c.in-Some-Some.is-1 in
     covered-if s last c.args.file new shows c.args.way.now w c.know_valid.ensures c.requires.valid c.stops_changed.result
     (subst (λ (old : Option (List ℕ)). IfOk c.stops_changed.result (λ stops. stops.items ≡ needed (begun_at (may_begin s old new) c.args.way.now.stops.items))) (sym had)
-    (c.stops_changed.ensures s (subst (λ (dirs : List ℕ). IsIndexOf (map (query_at s) dirs) c.args.way.now.index) (sym (dirs-way s c.args.way.now w)) w.index)))
+    (c.stops_changed.ensures s (index-way s c.args.way.now w)))
 
 pub returns-then-len-le-FEW_STOPS-clause-covers : goal.returns-then-len-le-FEW_STOPS-clause-covers
 returns-then-len-le-FEW_STOPS-clause-covers c =
@@ -37,7 +36,7 @@ returns-in-Some-Some-clause-most c =
     let w = c.requires.way in
     let begins = may_begin s (Some c.in-Some-Some.old.now) c.in-Some-Some.new.now in
     indexed-most s c.args.indexing.now.last (needed (begun_at begins way.stops.items)) c.stops_changed.result (along-needed s way w c.know_valid.ensures begins)
-    (c.stops_changed.ensures s (subst (λ (dirs : List ℕ). IsIndexOf (map (query_at s) dirs) way.index) (sym (dirs-way s way w)) w.index))
+    (c.stops_changed.ensures s (index-way s way w))
 
 pub returns-then-len-le-FEW_STOPS-clause-most : goal.returns-then-len-le-FEW_STOPS-clause-most
 returns-then-len-le-FEW_STOPS-clause-most c =
