@@ -1,5 +1,5 @@
-//! What a space is asked as it is mounted, and as its mount is synced: the terms in use, in order. It
-//! changes nothing.
+//! What a space is asked as it is mounted, and as its mount is synced: the terms in use, in order.
+//! It changes nothing.
 ghost use Rattle.std.specs.Prelude.{◌≡◌, ◌++◌, [], IfOk, OnOk};
 ghost use Rattle.std.specs.Option.{option_map_or};
 ghost use Rattle.hac_model.specs.Query.Queries.{terms_of};
