@@ -100,8 +100,9 @@ pub fn child_lines(alloc: Global, kept: &KeptState, dir: Number) -> Result<Vec<N
 {
     let tree = kept.tree();
     let mut lines = Vec::new(alloc);
-    for child in tree.children(dir) {
-        lines.push(child_line(alloc, tree, *child)?)?;
+    let entries = tree.children(dir);
+    'entries: for place in 0..entries.len() {
+        lines.push(child_line(alloc, tree, entries.at(place))?)?;
     }
     Ok(lines)
 }

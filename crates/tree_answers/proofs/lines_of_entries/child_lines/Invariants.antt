@@ -3,5 +3,5 @@ use Rattle.tree_answers.proofs.ListingLemmas.{line_at}
 use Rattle.tree_answers.proofs.lines_of_entries.child_lines.Given as goal
 
 -- a line for each of the children so far
-abbrev pub invariant-loop-child : goal.invariant-loop-child
-invariant-loop-child l = l.lines.items ≡ map (line_at l.tree.state) (take l.child-index l.child-items)
+abbrev pub invariant-entries : goal.invariant-entries
+invariant-entries l = l.lines.items ≡ map (line_at l.tree.state) (take l.place l.entries)
