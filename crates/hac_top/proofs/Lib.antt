@@ -16,6 +16,7 @@ pub mod OpenedLemmas
 pub mod OpeningLemmas
 pub mod AttachLemmas
 pub mod UnattachedLemmas
+pub mod UnopenedLemmas
 pub mod CostLemmas
 pub mod CountsLemmas
 pub mod MakingLemmas

@@ -214,6 +214,10 @@ abbrev pub IfOpens : Option Options → Option (List ℕ) → Option (List ℕ) 
     (Options → ℕ → Setting → List ℕ → Type 0) → Type 0
 IfOpens words seen left P = IfSome words (λ asked. asked.make ≡ None → IfOpened asked seen left (P asked))
 
+-- how many questions finding that may take, if the file is known and holds no store to open
+abbrev pub IfUnopened : Bool → Option (List ℕ) → (ℕ → Type 0) → Type 0
+IfUnopened fresh seen P = IfSome seen (λ file. IfErr (opening_outcome fresh (held file)) (λ _. P (loading file)))
+
 -- no call of the source, the sink or the disk failed, given the faults of the disk
 abbrev pub IsFaultless : Outside → Outside → ℕ → ℕ → Type 0
 IsFaultless before after was now =

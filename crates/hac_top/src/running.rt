@@ -1,6 +1,6 @@
 //! The run: the spaces are attached, the store is opened, and the script that is read, or one that
 //! is drawn, is played on it.
-ghost use Rattle.std.specs.Prelude.{◌≡◌, ◌⊎◌, [], true, false, IfErr, IfSome, None, Some, map};
+ghost use Rattle.std.specs.Prelude.{◌≡◌, ◌≤◌, ◌+◌, ◌⊎◌, [], true, false, IfErr, IfSome, None, Some, map};
 ghost use Rattle.std.specs.Prelude.{string_bytes};
 ghost use Rattle.std.specs.Io.KnownBytes.{Appends};
 ghost use Rattle.hac_disk.specs.Images.{IsQuiet, LeavesOnly};
@@ -16,7 +16,7 @@ ghost use Rattle.hac_top.specs.Ends.{IsStoreStatus, is_bad_space, is_disk_fault}
 ghost use Rattle.hac_top.specs.Ends.{is_write_fault};
 ghost use Rattle.hac_top.specs.Making.{IfMakes, Makes, Tells};
 ghost use Rattle.hac_top.specs.Run.{AppendsSome, Ends, EndsSo, IfOpened, IfOpens, IsFaultless};
-ghost use Rattle.hac_top.specs.Run.{Ran, RefusesWords, once_open, outside, usage_line};
+ghost use Rattle.hac_top.specs.Run.{IfUnopened, Ran, RefusesWords, once_open, outside, usage_line};
 ghost use Rattle.hac_top.specs.Spaces.{CanAttach, LeavesSpaces};
 ghost use Rattle.command_line.specs.Words.{asked_of};
 
@@ -49,8 +49,8 @@ use std::sync::ledger::Ledger;
 /// and of the replies only that to `counts` is written, which is asked behind the script.
 ///
 /// `probes` counts how often a term is asked of an item. Where the disk, the source and the spaces
-/// tell what they hold, and the file has a store or gets one, that is at most as often as opening
-/// it may take, and each line that is taken up.
+/// tell what they hold, that is at most as often as opening the store may take, and each line that
+/// is taken up, if it opens.
 pub fn run<S: Source, K: Sink, D: Disk, P: Spaces, L: Ledger>(
     alloc: Global,
     words: &[String],
@@ -118,6 +118,9 @@ pub fn run<S: Source, K: Sink, D: Disk, P: Spaces, L: Ledger>(
         (λ wanted.
         EndsSo wanted result × IsQuiet D.seen D.image D.moment D.image_since disk.old disk.new ×
         (input.new ≡ input.old) × (output.new ≡ output.old)))) }
+    ensures unopened_asks { IfSome (options (map string_bytes words.now))
+        (λ asked. IfUnopened asked.fresh (D.seen disk.old)
+        (λ opening. probes.new ≤ probes.old + opening)) }
     ensures file { IfSome (options (map string_bytes words.now))
         (λ asked. IfSome (D.seen disk.old) (λ file. IsOfFile result → opening_outcome asked.fresh
         (held file) ≡ Err result)) }
@@ -185,6 +188,8 @@ fn run_store<S: Source, K: Sink, D: Disk, P: Spaces, L: Ledger>(
         (λ wanted.
         EndsSo wanted result × IsQuiet D.seen D.image D.moment D.image_since disk.old disk.new ×
         (input.new ≡ input.old) × (output.new ≡ output.old))) }
+    ensures unopened_asks { IfUnopened options.now.fresh (D.seen disk.old)
+        (λ opening. probes.new ≤ probes.old + opening) }
     ensures file { IfSome (D.seen disk.old) (λ file. IsOfFile result → opening_outcome
         options.now.fresh (held file) ≡ Err result) }
     ensures attached { LeavesAttached result (D.attached disk.old) (asked_of options.now)

@@ -10,6 +10,7 @@ use Rattle.command_line.proofs.WordNames.{asked-differ}
 use Rattle.hac_top.proofs.AttachLemmas.{not-bad}
 use Rattle.hac_top.proofs.MakingLemmas.{made-given, made-unattached, memory-made}
 use Rattle.hac_top.proofs.UnattachedLemmas.{is-unattached, memory-attached, memory-quiet, memory-ran, memory-spaces, own-good, own-spaces, ran-given, ran-unattached, stopped-later, stopped-spaces, told-good, unattached-disk, unattached-ends, unattached-file, unattached-names, unattached-quiet, unattached-usage}
+use Rattle.hac_top.proofs.UnopenedLemmas.{unopened-early, unopened-still}
 use Rattle.hac_top.proofs.running.run.Goals as goal
 
 pub attach_spaces-requires-clause-differ : goal.attach_spaces-requires-clause-differ
@@ -179,3 +180,13 @@ returns-clause-made g c =
     (λ own own_after. CanAttach files old new × IsFaultless own own_after faults faults) c.in-Err.status (is-unattached files old new c.in-Err.status stops)
     (λ own given bad. not-bad files old new c.in-Err.status stops given.0 bad) (asked_of c.in-Ok.options) c.args.disk.now (outside (g.S.Source.seen c.args.input.now) (g.K.Sink.seen c.args.output.now) c.args.probes.now) old new
     (stopped-later files old new c.in-Err.status stops) c.in-Ok.options.make)
+
+-- where no store is open, no more is asked than finding that may take
+pub returns-in-Err-Memory-clause-unopened_asks : goal.returns-in-Err-Memory-clause-unopened_asks
+returns-in-Err-Memory-clause-unopened_asks g c = unopened-early (options (map string_bytes c.args.words.now)) (g.D.Disk.seen c.args.disk.now) c.args.probes.now
+
+pub returns-in-Ok-attach_spaces-clause-unopened_asks : goal.returns-in-Ok-attach_spaces-clause-unopened_asks
+returns-in-Ok-attach_spaces-clause-unopened_asks g c = rw c.in-Ok.ensures.read c.run_store.ensures.unopened_asks
+
+pub returns-clause-unopened_asks : goal.returns-clause-unopened_asks
+returns-clause-unopened_asks g c = rw c.in-Ok.ensures.read (unopened-still c.in-Ok.options.fresh (g.D.Disk.seen c.args.disk.now) c.args.probes.now)

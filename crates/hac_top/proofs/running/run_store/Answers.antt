@@ -6,6 +6,7 @@ use Rattle.command_line.specs.Words.{asked_of}
 use Rattle.hac_top.proofs.MakingLemmas.{made-ends, made-unopened, makes-opened}
 use Rattle.hac_top.proofs.OpenedLemmas.{ran-opened, ran-unopened}
 use Rattle.hac_top.proofs.UnattachedLemmas.{opened-attached, opened-own, unopened-attached, unopened-own}
+use Rattle.hac_top.proofs.UnopenedLemmas.{opened-instead, unopened-within}
 use Rattle.hac_top.proofs.running.run_store.Goals as goal
 
 pub returns-in-None-clause-own : goal.returns-in-None-clause-own
@@ -86,3 +87,13 @@ returns-in-Err-clause-made g c =
     let disk = g.D.Disk in
     made-unopened disk.seen disk.image disk.moment disk.image_since disk.attached disk.faults g.met.D.Disk.only_now g.met.D.Disk.counts_now (asked_of c.args.options.now) c.args.disk.now c.open_store.new.disk
     (outside (g.S.Source.seen c.args.input.now) (g.K.Sink.seen c.args.output.now) c.args.probes.now) c.open_store.new.probes (g.P.Spaces.seen c.args.spaces.now) c.in-Err.status c.in-Err.ensures.stops c.in-Err.ensures.faults c.in-Err.ensures.opened c.open_store.ensures.probes c.in-Err.ensures.any_moment c.args.options.now.make
+
+-- no store is opened, or one is
+pub returns-in-Err-clause-unopened_asks : goal.returns-in-Err-clause-unopened_asks
+returns-in-Err-clause-unopened_asks g c = unopened-within c.args.options.now.fresh (g.D.Disk.seen c.args.disk.now) c.args.probes.now c.open_store.new.probes c.open_store.ensures.probes
+
+pub returns-in-None-clause-unopened_asks : goal.returns-in-None-clause-unopened_asks
+returns-in-None-clause-unopened_asks g c = opened-instead c.args.options.now.fresh (g.D.Disk.seen c.args.disk.now) c.in-Ok.store.setting (λ opening. c.play_store.new.probes ≤ c.args.probes.now + opening) c.in-Ok.ensures.opened
+
+pub returns-in-Some-clause-unopened_asks : goal.returns-in-Some-clause-unopened_asks
+returns-in-Some-clause-unopened_asks g c = opened-instead c.args.options.now.fresh (g.D.Disk.seen c.args.disk.now) c.in-Ok.store.setting (λ opening. c.make_store.new.probes ≤ c.args.probes.now + opening) c.in-Ok.ensures.opened
