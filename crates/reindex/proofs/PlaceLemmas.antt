@@ -1,9 +1,9 @@
 -- The stops of a way at which judging begins, by their places.
 use Rattle.std.proofs.Common.{◌≡◌, ℕ, zero, suc, ◌+◌, ◌-◌, ◌<◌, ◌≤◌, Bool, true, false, cond, List, [], ◌∷◌, length, get_or, ap, arith, inl, inr, refl, subst, sym, ◌∙◌}
-use Rattle.std.specs.Prelude.{◌||◌, ◌++◌, ◌==◌, drop, flat_map, map, Option}
+use Rattle.std.specs.Prelude.{◌||◌, ◌++◌, ◌==◌, drop, take, flat_map, map, slice_get, Option, Some}
 use Rattle.std.specs.Option.{option_map_or}
 use Rattle.std.proofs.lemmas.Bool.{cases_eq, ne_eqb, or_parts}
-use Rattle.std.proofs.lemmas.List.{append-nil, append_assoc}
+use Rattle.std.proofs.lemmas.List.{append-nil, append_assoc, take_all}
 use Rattle.std.proofs.lemmas.List.Concat.{flat_map-cons}
 use Rattle.std.proofs.lemmas.List.Elements.{filter-append}
 use Rattle.file_tree.proofs.RisingLemmas.{has-first, has-low}
@@ -27,6 +27,14 @@ places-begin s test stops places are = record { rise = are.rise; all = λ n. are
     same [] n = refl
     same (stop ∷ stops) zero = refl
     same (stop ∷ stops) (suc n) = same stops n
+
+-- places are behind one that is not among them
+pub behind-rise : (place : ℕ) (places : List ℕ) → RiseFrom place places → has places place ≡ false → RiseFrom (place + 1) places
+behind-rise place [] rise out = tt
+behind-rise place (p ∷ ps) rise out = elim (cases_eq p place) [
+  | inl first ↦ absurd (let never : true ≡ false = sym (has-first p ps) ∙ ap (has (p ∷ ps)) first ∙ out in cc)
+  | inr other ↦ (omega (arith, rise.0, other), rise.1)
+]
 
 -- where no stop leans, the stops of the places are all that are needed: `at` gives them from the number of the first on
 picked-from : (begins : ℕ → Bool) (n : ℕ) (at : ℕ → List Stop) (stops : List Stop) (places : List ℕ) → RiseFrom n places → ((k : ℕ) → has places (n + k) ≡ begins_there begins stops k) →
@@ -72,15 +80,8 @@ picked-from begins n at (stop ∷ stops) places rise those same none =
           absurd (let never : false ≡ true = sym (has-low p (p ∷ ps) n (omega arith, rise.1) above) ∙ ap (has (p ∷ ps)) here ∙ those 0 ∙ is in cc)
     ]
     by false is places rise those further =
-        further places (higher places rise (ap (has places) here ∙ those 0 ∙ is)) (λ k. ap (has places) (next k) ∙ those (suc k))
+        further places (behind-rise n places rise (ap (has places) here ∙ those 0 ∙ is)) (λ k. ap (has places) (next k) ∙ those (suc k))
         ∙ whole false is
-      where
-        higher : (places : List ℕ) → RiseFrom n places → has places n ≡ false → RiseFrom (n + 1) places
-        higher [] rise out = tt
-        higher (p ∷ ps) rise out = elim (cases_eq p n) [
-          | inl first ↦ absurd (let never : true ≡ false = sym (has-first p ps) ∙ ap (has (p ∷ ps)) first ∙ out in cc)
-          | inr other ↦ (omega (arith, rise.0, other), rise.1)
-        ]
 
 pub picked : (begins : ℕ → Bool) (stops : List Stop) (places : List ℕ) → AreThose (begins_there begins stops) places → any_leans stops ≡ false → flat_map (begun_there stops) places ≡ needed (begun_at begins stops)
 picked begins stops places are none = picked-from begins 0 (begun_there stops) stops places are.rise (λ k. ap (has places) (zero-plus k) ∙ are.all k) (λ k. ap (begun_there stops) (zero-plus k)) none
@@ -111,3 +112,33 @@ needed-more begins stops places i stop chosen old new are inside is among added 
 pub none-there : (stops : List Stop) (place : ℕ) (items : List Stop) → length stops ≤ place → items ≡ items ++ begun_there stops place
 none-there stops place items outside =
     sym (ap (λ (o : Option Stop). items ++ option_map_or (λ stop. record stop { begins = true } ∷ []) o []) (get-outside stops place outside) ∙ append-nil items)
+
+-- none but the first is the least that may be there
+first-there : (first place : ℕ) (more : List ℕ) → RiseFrom place (first ∷ more) → (first == place) ≡ has (first ∷ more) place
+first-there first place more rise =
+    sym (ap (λ (b : Bool). first == place || b) (has-low (first + 1) more place rise.1 (omega (arith, rise.0))) ∙ or-false (first == place))
+  where
+    or-false : (b : Bool) → (b || false) ≡ b
+    or-false true = refl
+    or-false false = refl
+
+pub first-got : (places : List ℕ) (first place : ℕ) → slice_get places 0 ≡ Some first → RiseFrom place places → (first == place) ≡ has places place
+first-got [] first place is rise = absurd cc
+first-got (p ∷ ps) first place is rise = let same : p ≡ first = cc in ap (λ (n : ℕ). n == place) (sym same) ∙ first-there p place ps rise
+
+-- those behind the first are behind it
+rest-taken : (places : List ℕ) → take (length places - 1) (drop 1 places) ≡ drop 1 places
+rest-taken [] = refl
+rest-taken (p ∷ ps) = take_all (length (p ∷ ps) - 1) ps (omega arith)
+
+rest-same : (place : ℕ) (places : List ℕ) → RiseFrom place places → has places place ≡ true → (n : ℕ) → place < n → has (drop 1 places) n ≡ has places n
+rest-same place [] rise there n less = refl
+rest-same place (p ∷ ps) rise there n less = elim (cases_eq p place) [
+  | inl first ↦ ap (λ (b : Bool). b || has ps n) (sym (ne_eqb p n (λ e. omega (arith, first, e, less))))
+  | inr other ↦
+      let above : place < p = omega (arith, rise.0, other) in
+      absurd (let never : true ≡ false = sym there ∙ has-low p (p ∷ ps) place (omega arith, rise.1) above in cc)
+]
+
+pub taken-same : (place : ℕ) (places : List ℕ) → RiseFrom place places → has places place ≡ true → (n : ℕ) → place < n → has (take (length places - 1) (drop 1 places)) n ≡ has places n
+taken-same place places rise there n less = ap (λ (ps : List ℕ). has ps n) (rest-taken places) ∙ rest-same place places rise there n less

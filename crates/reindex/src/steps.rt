@@ -104,18 +104,6 @@ fn settle_file<L: Ledger>(
     }
 }
 
-/// The text of a file that is indexed for the first time, if its words are to be listed.
-fn first_text<'a>(indexing: &'a Indexing<'_>, way: &Way, file: Number) -> Option<&'a [u8]>
-    ensures first { IfSome result (λ text. shown_of indexing.now.kept.now.state file ≡ None) }
-    ensures shows { IfSome result (λ text. shown_of
-        (indexed_through indexing.now.last indexing.now.kept.now.state) file ≡ Some text.now) }
-{
-    if way.stops.len() <= FEW_STOPS || shown_of(indexing.kept, file).is_some() {
-        return None;
-    }
-    indexing.shown(file)
-}
-
 /// The same of a file that shows its first text then. What the index says of its words is told
 /// once.
 fn settle_first<L: Ledger>(
@@ -198,6 +186,18 @@ fn settle_again<L: Ledger>(
         delta,
         probes,
     )
+}
+
+/// The text of a file that is indexed for the first time, if its words are to be listed.
+fn first_text<'a>(indexing: &'a Indexing<'_>, way: &Way, file: Number) -> Option<&'a [u8]>
+    ensures first { IfSome result (λ text. shown_of indexing.now.kept.now.state file ≡ None) }
+    ensures shows { IfSome result (λ text. shown_of
+        (indexed_through indexing.now.last indexing.now.kept.now.state) file ≡ Some text.now) }
+{
+    if way.stops.len() <= FEW_STOPS || shown_of(indexing.kept, file).is_some() {
+        return None;
+    }
+    indexing.shown(file)
 }
 
 /// The way on which a file is judged once it is indexed. Where it showed a text, judging begins

@@ -1,6 +1,6 @@
 //! The ways on which items are judged again after an event.
-ghost use Rattle.std.specs.Prelude.{◌≡◌, ◌==◌, ◌++◌, ◌∷◌, [], ℕ, Bool, IfOk, OnOk, false};
-ghost use Rattle.std.specs.Prelude.{flat_map, length, map, not};
+ghost use Rattle.std.specs.Prelude.{◌≡◌, ◌==◌, ◌++◌, ◌∷◌, ◌+◌, ◌<◌, [], ℕ, Bool, IfOk, OnOk};
+ghost use Rattle.std.specs.Prelude.{false, flat_map, length, map, not};
 ghost use Rattle.std.specs.List.{list_any};
 ghost use Rattle.hac_model.specs.Tree.Links.{is_semantic, lenders, query_at};
 ghost use Rattle.hac_model.specs.Tree.Links.{has};
@@ -197,25 +197,43 @@ fn add_begun(stops: &[Stop], place: usize, begun: &mut Vec<Stop>) -> Result<(), 
     Ok(())
 }
 
-/// They are those, and others that lean.
+/// They are those, and others that lean on some.
 fn stops_needed(alloc: Global, stops: &[Stop], places: &[usize]) -> Result<Vec<Stop>, Memory>
     requires { RiseFrom 0 places.now }
     ensures { (begins : ℕ → Bool) → AreThose (begins_there begins stops.now) places.now
         → IfOk result (λ begun. begun.items ≡ needed (begun_at begins stops.now)) }
 {
     let mut begun = Vec::new(alloc);
+    let mut left = places;
     for place in 0..stops.len() {
-        add_needed(stops[place], is_among(place, places), &mut begun)?;
+        add_needed(stops[place], is_first(left, place), &mut begun)?;
+        left = behind(left, place);
     }
     Ok(begun)
 }
 
-/// Whether a place is among some that are in order.
-fn is_among(place: usize, places: &[usize]) -> bool
-    requires { RiseFrom 0 places.now }
+/// Whether a place is the first of some that are in order, none of them before it.
+fn is_first(places: &[usize], place: usize) -> bool
+    requires { RiseFrom place places.now }
     ensures { result ≡ has places.now place }
 {
-    places.binary_search(&place).is_ok()
+    match places.first() {
+        Some(first) => *first == place,
+        None => false,
+    }
+}
+
+/// Those of such places that are behind it.
+fn behind(places: &[usize], place: usize) -> &[usize]
+    requires { RiseFrom place places.now }
+    ensures rise { RiseFrom (place + 1) result.now }
+    ensures same { (n : ℕ) → place < n → has result.now n ≡ has places.now n }
+{
+    if is_first(places, place) {
+        &places[1..]
+    } else {
+        places
+    }
 }
 
 /// Adds a stop if it is needed.
