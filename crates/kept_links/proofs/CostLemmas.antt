@@ -1,6 +1,6 @@
 -- What is judged again after an event takes no more questions than the event may.
 use Rattle.std.proofs.Common.{◌≡◌, ◌≤◌, ◌+◌, ◌*◌, ℕ, zero, suc, Bool, true, false, cond, List, [], ◌∷◌, ◌++◌, length, ap, arith, eq-eqb, inl, inr, refl, subst, sym, ◌∙◌}
-use Rattle.std.specs.Prelude.{◌≢◌, ◌==◌, ◌&&◌, ◌||◌, if◌then◌else◌, filter, not, Option, Some, None, IsTrue, option_and_then}
+use Rattle.std.specs.Prelude.{◌==◌, ◌&&◌, ◌||◌, if◌then◌else◌, filter, not, Option, Some, None, IsTrue, option_and_then}
 use Rattle.std.specs.List.{range_with_len}
 use Rattle.std.specs.Option.{option_map, option_map_or, option_or}
 use Rattle.std.proofs.lemmas.Bool.{and_parts, eqb-true}

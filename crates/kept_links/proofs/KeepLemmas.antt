@@ -1,5 +1,5 @@
 -- The links that are kept are those of the state, before and after it changes.
-use Rattle.std.proofs.Common.{◌≡◌, ℕ, zero, suc, true, List, [], ◌∷◌, ap, arith, refl, sym, subst, ◌∙◌}
+use Rattle.std.proofs.Common.{◌≡◌, ℕ, zero, suc, true, false, List, [], ◌∷◌, ap, arith, refl, sym, subst, ◌∙◌}
 use Rattle.std.specs.Prelude.{Option, None, IsTrue, replicate, unwrap_or}
 use Rattle.hac_model.specs.Laws.{AllHappen}
 use Rattle.hac_model.specs.Tree.{raised, root_alone}
@@ -24,7 +24,7 @@ use Rattle.hac_model.proofs.AcyclicLemmas.{apply-valid}
 use Rattle.hac_model.proofs.RaisedLemmas.{links-raised}
 use Rattle.kept_state.specs.Seen.{Seen}
 use Rattle.reindex.specs.Past.{Lead}
-use Rattle.reindex.specs.Ways.{IsWayOf}
+use Rattle.reindex.specs.Ways.{IsWayOf, any_leans}
 use Rattle.reindex.specs.declared.ways.Way.{Way}
 use Rattle.kept_links.specs.Kept.{AreLinksKept}
 use Rattle.kept_links.specs.declared.linked.LinkedState.TheInside.{Inside}
@@ -56,12 +56,21 @@ nothing-wanted known delta none = subst (λ (changes : List Change). HasRoom kno
 -- The way to all semantic directories.
 
 -- none is there beside the root alone
-pub way-root : (version : Version) (way : Way) → way.stops.items ≡ [] → IsIndexOf [] way.index → IsWayOf (root_alone version) way
-way-root version way none index = record { order = []; ordered = tt; all = λ dir some. absurd (some refl); only = λ dir among. absurd among; stops = none; index = index; lends = λ not_any dir. refl }
+pub way-root : (version : Version) (way : Way) → way.stops.items ≡ [] → IsIndexOf [] way.index → way.leans ≡ false → IsWayOf (root_alone version) way
+way-root version way none index leans = record {
+  order = [];
+  ordered = tt;
+  all = λ dir some. absurd (some refl);
+  only = λ dir among. absurd among;
+  stops = none;
+  index = index;
+  lends = λ not_any dir. refl;
+  leaning = leans ∙ sym (ap any_leans none);
+}
 
 -- a state that is raised has the same one
 way-raised : (s : State) (way : Way) → IsWayOf s way → IsWayOf (raised s) way
-way-raised s way is = record { order = is.order; ordered = is.ordered; all = is.all; only = is.only; stops = is.stops; index = is.index; lends = is.lends }
+way-raised s way is = record { order = is.order; ordered = is.ordered; all = is.all; only = is.only; stops = is.stops; index = is.index; lends = is.lends; leaning = is.leaning }
 
 -- what is ready for nothing leaves it
 pub nothing-next : (s : State) (ready : List Event) (way : Way) (next : Option Way) → ready ≡ [] → next ≡ None → IsWayOf s way → IsWayOf (apply_all s ready) (unwrap_or next way)

@@ -266,6 +266,7 @@ module _ (s : State) (event : Event) (valid : IsValid s) (ok : IsTrue (accepted 
     stops = w.stops ∙ (λ i. stops_at (λ dir. true) (λ dir. leans-still dir i) w.order);
     index = subst (λ (queries : List (Option (Formula ℕ))). IsIndexOf queries way.index) (λ i. map (λ dir. asks-still s valid event ok dir (never dir) i) w.order) w.index;
     lends = λ not_any dir. lends-still s valid event ok never dir (w.lends not_any dir);
+    leaning = w.leaning;
   }
     where
       asked-still : (dir : ℕ) → is_semantic s dir ≡ is_semantic t dir

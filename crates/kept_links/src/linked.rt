@@ -65,6 +65,7 @@ impl LinkedState {
                 stops: Vec::new(alloc),
                 index: QueryIndex::new(alloc),
                 lends: false,
+                leans: false,
             },
             delta: Vec::new(alloc),
             next: None,
