@@ -1,4 +1,4 @@
-use Rattle.std.proofs.Common.{◌∙◌, ap, refl, sym, arith, rules, true≢false}
+use Rattle.std.proofs.Common.{◌∙◌, ap, refl, sym, arith, rules, true≢false, ℕ, ◌≤◌, ◌+◌}
 use Rattle.std.specs.Prelude.{is_some}
 use Rattle.hac_disk.specs.Contents.{IsSettled}
 use Rattle.hac_top.specs.Run.{outside}
