@@ -4,6 +4,7 @@
 //! judged, and the links as they were. It knows no command, no path and no other event.
 #![tactic(auto)]
 
+mod ahead;
 mod anew;
 mod fitted;
 mod indexing;

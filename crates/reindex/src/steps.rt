@@ -12,10 +12,12 @@ ghost use Rattle.hac_model.specs.declared.events.Event.TheVariants.{Step};
 ghost use Rattle.reeval.specs.Probes.{terms_along};
 ghost use Rattle.reeval.specs.Routes.{Covers};
 ghost use Rattle.reeval.specs.Settled.{AreLinksOf};
+ghost use Rattle.reindex.specs.Ahead.{AddsNewsOf, AreAhead, state_before, state_behind};
 ghost use Rattle.reindex.specs.Past.{Lead};
 ghost use Rattle.reindex.specs.Steps.{AreIndexed, AreSettled, indexed_through};
 ghost use Rattle.reindex.specs.Ways.{IsWayOf};
 
+use crate::ahead::StepsAhead;
 use crate::fitted::Fitted;
 use crate::indexing::{Indexing, shown_of};
 use crate::past::Past;
@@ -48,31 +50,33 @@ pub fn delta_of_steps<L: Ledger>(
 {
     kept.know_valid();
     let batch = first_dirty(alloc, kept, count)?;
+    let ahead = StepsAhead {
+        kept,
+        found,
+        way,
+        last: batch.last,
+    };
     let files = batch.files.as_slice();
-    delta_of_files(alloc, kept, found, way, files, batch.last, probes)
+    delta_of_files(alloc, &ahead, files, probes)
 }
 
 /// What is new of files, once all are indexed whose numbers aren't above the last.
 fn delta_of_files<L: Ledger>(
     alloc: Global,
-    kept: &KeptState,
-    found: &Links,
-    way: &Way,
+    ahead: &StepsAhead<'_>,
     files: &[Number],
-    last: Number,
     probes: &mut Steps<L>,
 ) -> Result<Vec<Change>, Memory>
-    requires links { AreLinksOf kept.now.state found.now }
-    requires way { IsWayOf kept.now.state way.now }
-    requires valid { IsValid (indexed_through last kept.now.state) }
+    requires ahead { AreAhead ahead.now }
     requires once { EachOnce files.now }
-    ensures settled { IfOk result (λ delta. AreSettled kept.now.state
-        (indexed_through last kept.now.state) files.now delta.items) }
-    ensures probes { probes.new ≤ probes.old + length files.now * weight kept.now.state }
+    ensures settled { IfOk result (λ delta. AreSettled (state_before ahead.now)
+        (state_behind ahead.now) files.now delta.items) }
+    ensures probes { probes.new ≤ probes.old
+        + length files.now * weight (state_before ahead.now) }
 {
     let mut delta = Vec::new(alloc);
     for file in files {
-        settle_file(alloc, kept, found, way, last, *file, &mut delta, probes)?;
+        settle_file(alloc, ahead, *file, &mut delta, probes)?;
     }
     Ok(delta)
 }
@@ -80,27 +84,22 @@ fn delta_of_files<L: Ledger>(
 /// Adds what is new of one file then.
 fn settle_file<L: Ledger>(
     alloc: Global,
-    kept: &KeptState,
-    found: &Links,
-    way: &Way,
-    last: Number,
+    ahead: &StepsAhead<'_>,
     file: Number,
     delta: &mut Vec<Change>,
     probes: &mut Steps<L>,
 ) -> Result<(), Memory>
-    requires links { AreLinksOf kept.now.state found.now }
-    requires way { IsWayOf kept.now.state way.now }
-    requires valid { IsValid (indexed_through last kept.now.state) }
-    ensures settled { OnOk result ((files : List ℕ) → ¬ Among files file
-        → AreSettled kept.now.state (indexed_through last kept.now.state) files delta.old.items
-        → AreSettled kept.now.state (indexed_through last kept.now.state) (files ++ file ∷ [])
-        delta.new.items) }
-    ensures probes { probes.new ≤ probes.old + weight kept.now.state }
+    requires { AreAhead ahead.now }
+    ensures settled { OnOk result (AddsNewsOf ahead.now file delta.old.items delta.new.items) }
+    ensures probes { probes.new ≤ probes.old + weight (state_before ahead.now) }
 {
-    let indexing = Indexing { kept, last };
-    match first_text(&indexing, way, file) {
-        Some(text) => settle_first(alloc, kept, found, way, last, file, text, delta, probes),
-        None => settle_again(alloc, kept, found, way, last, file, delta, probes),
+    let indexing = Indexing {
+        kept: ahead.kept,
+        last: ahead.last,
+    };
+    match first_text(&indexing, ahead.way, file) {
+        Some(text) => settle_first(alloc, ahead, file, text, delta, probes),
+        None => settle_again(alloc, ahead, file, delta, probes),
     }
 }
 
@@ -108,37 +107,34 @@ fn settle_file<L: Ledger>(
 /// once.
 fn settle_first<L: Ledger>(
     alloc: Global,
-    kept: &KeptState,
-    found: &Links,
-    way: &Way,
-    last: Number,
+    ahead: &StepsAhead<'_>,
     file: Number,
     text: &[u8],
     delta: &mut Vec<Change>,
     probes: &mut Steps<L>,
 ) -> Result<(), Memory>
-    requires links { AreLinksOf kept.now.state found.now }
-    requires way { IsWayOf kept.now.state way.now }
-    requires valid { IsValid (indexed_through last kept.now.state) }
-    requires first { shown_of kept.now.state file ≡ None }
-    requires shows { shown_of (indexed_through last kept.now.state) file ≡ Some text.now }
-    ensures settled { OnOk result ((files : List ℕ) → ¬ Among files file
-        → AreSettled kept.now.state (indexed_through last kept.now.state) files delta.old.items
-        → AreSettled kept.now.state (indexed_through last kept.now.state) (files ++ file ∷ [])
-        delta.new.items) }
-    ensures probes { probes.new ≤ probes.old + weight kept.now.state }
+    requires ahead { AreAhead ahead.now }
+    requires first { shown_of (state_before ahead.now) file ≡ None }
+    requires shows { shown_of (state_behind ahead.now) file ≡ Some text.now }
+    ensures settled { OnOk result (AddsNewsOf ahead.now file delta.old.items delta.new.items) }
+    ensures probes { probes.new ≤ probes.old + weight (state_before ahead.now) }
 {
+    let StepsAhead {
+        kept,
+        found,
+        way,
+        last,
+    } = *ahead;
     kept.know_valid();
-    let indexing = Indexing { kept, last };
-    let past = Past { kept, found };
     let fit = fit_of(alloc, &way.index, text)?;
     let stops = stops_fitting(alloc, way, &fit)?;
     let stops = stops.as_slice();
     let fitted = Fitted {
-        indexing: &indexing,
+        indexing: &Indexing { kept, last },
         fit: &fit,
         item: file,
     };
+    let past = Past { kept, found };
     settle_all(
         alloc,
         &fitted,
@@ -154,23 +150,21 @@ fn settle_first<L: Ledger>(
 /// The same of a file that showed a text, or of one that is judged in each directory.
 fn settle_again<L: Ledger>(
     alloc: Global,
-    kept: &KeptState,
-    found: &Links,
-    way: &Way,
-    last: Number,
+    ahead: &StepsAhead<'_>,
     file: Number,
     delta: &mut Vec<Change>,
     probes: &mut Steps<L>,
 ) -> Result<(), Memory>
-    requires links { AreLinksOf kept.now.state found.now }
-    requires way { IsWayOf kept.now.state way.now }
-    requires valid { IsValid (indexed_through last kept.now.state) }
-    ensures settled { OnOk result ((files : List ℕ) → ¬ Among files file
-        → AreSettled kept.now.state (indexed_through last kept.now.state) files delta.old.items
-        → AreSettled kept.now.state (indexed_through last kept.now.state) (files ++ file ∷ [])
-        delta.new.items) }
-    ensures probes { probes.new ≤ probes.old + weight kept.now.state }
+    requires { AreAhead ahead.now }
+    ensures settled { OnOk result (AddsNewsOf ahead.now file delta.old.items delta.new.items) }
+    ensures probes { probes.new ≤ probes.old + weight (state_before ahead.now) }
 {
+    let StepsAhead {
+        kept,
+        found,
+        way,
+        last,
+    } = *ahead;
     kept.know_valid();
     let indexing = Indexing { kept, last };
     let past = Past { kept, found };

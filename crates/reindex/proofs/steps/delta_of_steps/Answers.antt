@@ -5,10 +5,14 @@ use Rattle.reindex.proofs.BatchLemmas.{after, batch-if}
 use Rattle.reindex.proofs.ProbeLemmas.{steps-cost}
 use Rattle.reindex.proofs.steps.delta_of_steps.Goals as goal
 
-pub delta_of_files-requires-clause-valid : goal.delta_of_files-requires-clause-valid
-delta_of_files-requires-clause-valid g c =
+pub delta_of_files-requires-clause-ahead : goal.delta_of_files-requires-clause-ahead
+delta_of_files-requires-clause-ahead g c =
     let batch = c.in_ok-batch.batch in
-    after c.args.kept.now.state c.args.count batch.files.items batch.last c.know_valid.ensures c.requires.happen c.in_ok-batch.ensures
+    record {
+      links = c.requires.links;
+      way = c.requires.way;
+      valid = after c.args.kept.now.state c.args.count batch.files.items batch.last c.know_valid.ensures c.requires.happen c.in_ok-batch.ensures;
+    }
 
 pub returns-clause-leads : goal.returns-clause-leads
 returns-clause-leads g c =
