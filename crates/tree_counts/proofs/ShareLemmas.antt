@@ -10,7 +10,7 @@ use Rattle.hac_model.specs.declared.states.Body.TheVariants as body
 use Rattle.hac_model.specs.declared.states.Entry.{Entry}
 use Rattle.entry_counts.specs.Counting.{share_of}
 use Rattle.file_tree.specs.Answers.{entry_kind, entry_kind_at, is_dirty_at}
-use Rattle.file_tree.specs.declared.tree.EntryKind.TheVariants.{File, Dir, Symlink, Semantic, Mount, Document}
+use Rattle.file_tree.specs.declared.tree.EntryKind.TheVariants.{File, Dir, Semantic}
 
 module _ (es : List Entry) (n : ℕ) (e : Entry) (found : entry_at es n ≡ Some e) where
   -- what is looked up of the number is told by the entry
