@@ -2,11 +2,14 @@
 use Rattle.std.proofs.Common.{◌≡◌, true, false, cond, List, [], ◌∷◌, ◌++◌, refl, ap, sym, ◌∙◌}
 use Rattle.std.specs.Prelude.{◌&&◌, nat_lt, Option, Some, None}
 use Rattle.std.specs.Option.{option_map}
+use Rattle.std.proofs.lemmas.Bool.{and_from, and_parts}
 use Rattle.hac_model.specs.Run.Answers.{Refuses}
 use Rattle.hac_model.specs.Tree.Bare.{bare}
-use Rattle.hac_model.specs.Tree.Events.{apply}
+use Rattle.hac_model.specs.Script.SpaceNames.{is_space_name}
+use Rattle.hac_model.specs.Tree.Events.{apply, is_free, is_made_holder, is_placed}
 use Rattle.hac_model.specs.Tree.Limits.{counts, first_passed}
-use Rattle.hac_model.specs.Tree.Mounting.{are_documents}
+use Rattle.hac_model.specs.Tree.Mounting.{are_documents, are_documents_few}
+use Rattle.hac_model.specs.Tree.{is_mount_at}
 use Rattle.hac_model.specs.declared.events.Event.{Event}
 use Rattle.hac_model.specs.declared.events.Event.TheVariants.{Smkdir, Setq, Smount, Ssync}
 use Rattle.hac_model.specs.declared.limits.Limit.{Limit}
@@ -17,9 +20,24 @@ use Rattle.hac_model.specs.declared.replies.Refusal.TheVariants as refusal
 use Rattle.hac_model.specs.declared.states.State.{State}
 use Rattle.hac_model.proofs.AlikeLemmas.{counts-bare}
 use Rattle.hac_model.proofs.BareLemmas.{bare-commutes}
-use Rattle.file_tree.specs.Seated.{is_seated}
+use Rattle.tree_counts.specs.Seated.{is_seated}
 use Rattle.kept_state.proofs.StateLemmas.{same-free, same-mount}
 use Rattle.event_check.proofs.PlacedLemmas.{same-alone, same-made_holder}
+
+-- what is placed is in the tree
+pub placed-seated : (s : State) (e : Event) → is_placed s e ≡ true → is_seated s e ≡ true
+placed-seated s (Smkdir dir name query told) h = (and_parts (is_free s dir name) _ h).0
+placed-seated s (Setq dir query told) h = (and_parts (is_made_holder s dir) _ h).0
+placed-seated s (Smount dir name space documents told) h =
+    let short = and_parts _ (are_documents_few s.version documents) h in
+    let well = and_parts (is_free s dir name && is_space_name space && are_documents documents) _ short.0 in
+    let named = and_parts (is_free s dir name && is_space_name space) (are_documents documents) well.0 in
+    let free = and_parts (is_free s dir name) (is_space_name space) named.0 in
+    and_from (is_free s dir name) (are_documents documents) free.0 named.1
+placed-seated s (Ssync mount documents told) h =
+    let short = and_parts _ (are_documents_few s.version documents) h in
+    (and_parts (is_mount_at s.entries mount && are_documents documents) _ short.0).0
+placed-seated s other h = h
 
 module _ (s t : State) (bares : bare s ≡ bare t) where
   -- what an event refers to is in the tree where it is in the state

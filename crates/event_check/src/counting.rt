@@ -4,7 +4,7 @@ ghost use Rattle.std.specs.Option.{option_map};
 ghost use Rattle.hac_model.specs.Run.Answers.{Passes};
 ghost use Rattle.hac_model.specs.Tree.Events.{apply};
 ghost use Rattle.hac_model.specs.Tree.Limits.{answer_limits, counts, first_passed, layout_limits};
-ghost use Rattle.file_tree.specs.Seated.{is_seated};
+ghost use Rattle.tree_counts.specs.Seated.{is_seated};
 
 use hac_model::{Counts, Deny, Event, Limit, Refusal, Version, first_passed};
 use kept_state::KeptState;
@@ -15,7 +15,7 @@ pub fn counts_after(kept: &KeptState, event: &Event) -> Counts
     requires { IsTrue (is_seated kept.now.state event.now) }
     ensures { result ≡ counts (apply kept.now.state event.now) }
 {
-    kept.tree().counts_after(event)
+    tree_counts::counts_after(kept.tree(), event)
 }
 
 /// The version of the state's store.

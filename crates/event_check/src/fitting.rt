@@ -10,7 +10,7 @@ ghost use Rattle.hac_model.specs.Tree.Limits.{is_text};
 ghost use Rattle.event_check.specs.Fitting.{FitsAs, asks_spaces, passes_none, prohibits_found};
 
 use crate::asking::may_ask;
-use crate::counting::version;
+use crate::counting::{counts_after, version};
 use crate::mounting::{may_mount, may_sync};
 use crate::told::are_all_told;
 use file_tree::Tree;
@@ -37,7 +37,7 @@ pub fn fits(
     if !is_placed(alloc, kept, event)? {
         return Ok(None);
     }
-    let counts = kept.counts_after(event);
+    let counts = counts_after(kept, event);
     if !passes_none(version(kept), counts) {
         return Ok(None);
     }

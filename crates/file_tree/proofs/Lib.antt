@@ -13,14 +13,8 @@ pub mod LiveLemmas
 pub mod NumberedLemmas
 pub mod OrderLemmas
 pub mod DirtyLemmas
+pub mod IndexedLemmas
 pub mod TreeLemmas
-pub mod CountingLemmas
-pub mod TallyLemmas
-pub mod DeepLemmas
-pub mod SwapLemmas
-pub mod LongLemmas
-pub mod ShallowLemmas
-pub mod PlacedLemmas
 pub mod TraceLemmas
 pub mod WalkedLemmas
 pub mod OverLemmas

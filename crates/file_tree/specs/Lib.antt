@@ -5,10 +5,7 @@ pub mod Documents
 pub mod Seen
 pub mod Shape
 pub mod Answers
-pub mod Counting
-pub mod Depths
 pub mod Changes
 pub mod Traces
 pub mod Walked
-pub mod Seated
 pub mod Loading

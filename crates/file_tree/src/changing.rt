@@ -5,6 +5,7 @@ ghost use Rattle.std.specs.BTreeSet.{contains};
 ghost use Rattle.std.specs.Ordering.{nat_cmp};
 ghost use Rattle.hac_model.specs.Tree.Events.{added, apply, asking, changed_at, edited, indexed};
 ghost use Rattle.hac_model.specs.Tree.Events.{plain_body, removed, reseated, rewritten};
+ghost use Rattle.hac_model.specs.Tree.Limits.{counts};
 ghost use Rattle.hac_model.specs.Tree.{entry_at, is_directory_at, is_file_at};
 ghost use Rattle.hac_model.specs.Script.PathWords.{is_target, untested_word};
 ghost use Rattle.file_tree.specs.Answers.{is_dirty_at};
@@ -19,6 +20,7 @@ use crate::ready::{Ready, awaited, word_in};
 use crate::searching::rank;
 use crate::targets::read_word;
 use crate::tree::{EntryKind, Tree};
+use entry_counts::{kept_bytes, of_file, replaced};
 use hac_model::{Counts, Event, Memory, Name, Number, Query, Text};
 use std::collections::BTreeSet;
 use std::mem;
@@ -181,9 +183,19 @@ impl Tree {
     {
         self.forget();
         if let Some(file) = self.next_dirty() {
-            let counts = self.with_indexed(file);
+            let counts = self.counts_indexed(file);
             self.show(file, counts);
         }
+    }
+
+    /// How much the state will hold once a dirty file is indexed, which then keeps one text.
+    pub fn counts_indexed(&self, file: Number) -> Counts
+        requires { IsTrue (is_dirty_at self.now.state.entries file) }
+        ensures { result ≡ counts (changed_at self.now.state file (edited indexed)) }
+    {
+        let bytes = self.text(file).len() as u64;
+        let old = of_file(kept_bytes(bytes, self.shown(file)), true);
+        replaced(self.counts(), old, of_file(bytes, false))
     }
 
     /// Shows the text of a file.

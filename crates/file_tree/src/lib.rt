@@ -3,8 +3,6 @@
 #![tactic(auto)]
 
 mod changing;
-mod counting;
-mod depths;
 mod documents;
 mod loading;
 mod mounting;
@@ -13,7 +11,6 @@ mod paths;
 mod placing;
 mod ready;
 mod searching;
-mod shares;
 mod targets;
 mod tree;
 

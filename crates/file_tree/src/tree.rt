@@ -17,7 +17,7 @@ ghost use Rattle.file_tree.specs.Nodes.{body_of};
 use crate::nodes::{self, Content, Nodes, children_at};
 use crate::ready::Ready;
 use crate::searching::named;
-use crate::shares::of_root;
+use entry_counts::of_root;
 use hac_model::{Counts, Memory, Name, Number, Query, Text, Version};
 use indexmap::IndexMap;
 use std::alloc::Global;

@@ -35,7 +35,7 @@ use Rattle.hac_model.specs.declared.states.State.{State}
 use Rattle.hac_model.proofs.EventLemmas.{all-valid, cause-parts, made-holder, no_cause, slot-free, steps-happen, unblocked-happen, unblocked-placed}
 use Rattle.hac_model.proofs.LimitLemmas.{IsWithinLimits, first-before, limits-within, none-passed, paths-short}
 use Rattle.hac_model.proofs.PlayLemmas.{said-answers, saves-nothing}
-use Rattle.file_tree.specs.Seated.{is_seated}
+use Rattle.tree_counts.specs.Seated.{is_seated}
 use Rattle.hac_core.specs.Drafts.{IsChange, IsKnownOf, MakesSteps, Settles, answering, change_cause, is_indexing, is_reading, settled_change}
 use Rattle.hac_core.specs.Questions.{asks_for}
 use Rattle.hac_core.specs.Settling.{answered, settling_cause}

@@ -19,7 +19,7 @@ use Rattle.hac_model.specs.declared.replies.Refusal.TheVariants.{Limit}
 use Rattle.hac_model.specs.declared.spaces.Answers.{Answers}
 use Rattle.hac_model.specs.declared.states.State.{State}
 use Rattle.hac_model.proofs.EventLemmas.{are-documents}
-use Rattle.file_tree.specs.Seated.{is_seated}
+use Rattle.tree_counts.specs.Seated.{is_seated}
 use Rattle.hac_core.specs.Drafts.{IsCounted, answering}
 use Rattle.event_check.specs.Fitting.{asks_spaces}
 use Rattle.hac_core.specs.Questions.{asks_for}

@@ -6,7 +6,7 @@ ghost use Rattle.hac_model.specs.Run.Refusals.{blocking_cause, early_cause};
 ghost use Rattle.hac_model.specs.Run.Standing.{AllStand};
 ghost use Rattle.hac_core.specs.Drafts.{IsChange, IsCounted, IsDraftFor, IsKnownOf};
 ghost use Rattle.hac_core.specs.Drafts.{change_cause};
-ghost use Rattle.file_tree.specs.Seated.{is_seated};
+ghost use Rattle.tree_counts.specs.Seated.{is_seated};
 
 use crate::cycles::acyclic;
 use crate::drafts::{Change, Draft, Known};

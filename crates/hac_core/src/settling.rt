@@ -9,7 +9,7 @@ ghost use Rattle.hac_core.specs.Drafts.{IsCounted, answering, settled_change};
 ghost use Rattle.event_check.specs.Fitting.{asks_spaces};
 ghost use Rattle.hac_core.specs.Questions.{asks_for};
 ghost use Rattle.hac_core.specs.Settling.{answered, keeping_cause, limits_cause, settling_cause};
-ghost use Rattle.file_tree.specs.Seated.{is_seated};
+ghost use Rattle.tree_counts.specs.Seated.{is_seated};
 
 use crate::drafts::{Change, Settled};
 use event_check::{counts_after, version, within_all};

@@ -1,22 +1,18 @@
 -- What a linked tree says of its state: all but marks is in the tree alone.
-use Rattle.std.proofs.Common.{◌≡◌, ℕ, false, List, [], ◌∷◌, map, refl, ap, true, subst, sym, ◌∙◌}
-use Rattle.std.specs.Prelude.{◌&&◌, ◌||◌, not, nat_lt, Option, Some, None, is_some, option_and_then}
+use Rattle.std.proofs.Common.{◌≡◌, ℕ, false, List, [], ◌∷◌, map, refl, ap, subst, sym, ◌∙◌}
+use Rattle.std.specs.Prelude.{◌&&◌, ◌||◌, not, Option, Some, None, is_some, option_and_then}
 use Rattle.std.specs.Option.{option_map, option_map_or}
 use Rattle.hac_model.specs.Tree.Bare.{bare, bare_body}
 use Rattle.hac_model.specs.Tree.Events.{apply, can_have_mark, dirty, edited, is_bare, is_free, is_inside, is_made_holder, may_ask}
 use Rattle.hac_model.specs.Query.Formula.{Formula}
-use Rattle.hac_model.specs.Tree.Limits.{counts, is_text}
-use Rattle.hac_model.specs.Tree.Mounting.{are_documents, are_documents_few}
+use Rattle.hac_model.specs.Tree.Limits.{counts}
 use Rattle.hac_model.specs.Tree.Mounts.{terms_to_ask}
 use Rattle.hac_model.specs.Tree.Links.{can_be_added, is_item, is_semantic, parent_of, query_at, shown_of}
 use Rattle.hac_model.specs.Run.Resolving.{resolved_for}
-use Rattle.hac_model.specs.Script.PathWords.{is_target}
-use Rattle.hac_model.specs.Script.SpaceNames.{is_space_name}
 use Rattle.hac_model.specs.Tree.{body_at, entry_at, is_directory, is_directory_at, is_document, is_document_at, is_file, is_file_at, is_leaf, is_leaf_at, is_linkable, is_made_directory, is_mount_at, is_symlink, is_symlink_at, path_of, shown_text, target_in}
 use Rattle.hac_model.specs.Tree.Valid.{IsLayout}
 use Rattle.hac_model.specs.declared.commands.Command.{Command}
 use Rattle.hac_model.specs.declared.events.Event.{Event}
-use Rattle.hac_model.specs.declared.events.Event.TheVariants.{Mkdir, NewFile, Rewrite, Ln, Smkdir, Setq, Unq, Mark, Mv, Rm, Rmdir, Smount, Ssync, Sumount, Step, Cd}
 use Rattle.hac_model.specs.declared.marks.Kind.{Kind}
 use Rattle.hac_model.specs.declared.marks.Kind.TheVariants.{Transient, Permanent, Prohibited, Unlinked}
 use Rattle.hac_model.specs.declared.states.Body.{Body}
@@ -25,14 +21,10 @@ use Rattle.hac_model.specs.declared.states.Entry.{Entry}
 use Rattle.hac_model.specs.declared.states.State.{State}
 use Rattle.hac_model.proofs.AlikeLemmas.{bare-kind, counts-bare, directory-bare, dirty-same, document-bare, entry_at-bare, file-bare, layout-bare, layout-unbare, is_bare-bare, is_free-bare, is_inside-bare, may_ask-bare, mount-bare, parent_of-bare, path_of-bare, query_at-bare, for-bare, some-bare, symlink-bare, target_at-bare}
 use Rattle.hac_model.proofs.BareLemmas.{bare-commutes}
-use Rattle.hac_model.proofs.EventLemmas.{due}
 use Rattle.hac_model.proofs.FillLemmas.{bare-joined}
 use Rattle.hac_model.proofs.MapLemmas.{test-mapped}
 use Rattle.hac_model.proofs.MountFactLemmas.{terms-bare}
-use Rattle.std.proofs.lemmas.Bool.{and_from, and_parts}
-use Rattle.hac_model.specs.Tree.Events.{is_placed}
 use Rattle.file_tree.specs.Answers.{numbers_of}
-use Rattle.file_tree.specs.Seated.{is_seated}
 use Rattle.kept_state.specs.Parts.{IsLinked, facts_kept, state_of}
 use Rattle.kept_state.specs.declared.parts.Parts.{Parts}
 
@@ -152,34 +144,6 @@ module _ (s t : State) (bares : bare s ≡ bare t) where
   same-markable n Permanent = same-added n
   same-markable n Prohibited = same-item n
   same-markable n Unlinked = same-added n
-
-  -- what is placed in the one is in the other, what spaces are asked or have told aside
-  pub same-seated : (e : Event) → is_placed s e ≡ true → is_seated t e ≡ true
-  same-seated (Mkdir dir name) h = sym (same-free dir name) ∙ h
-  same-seated (NewFile dir name text) h = sym (λ i. same-free dir name i && is_text text) ∙ h
-  same-seated (Rewrite file text) h = sym (λ i. same-file file i && is_text text) ∙ h
-  same-seated (Ln dir name target) h = sym (λ i. same-free dir name i && is_target target) ∙ h
-  same-seated (Smkdir dir name query told) h = sym (same-free dir name) ∙ (and_parts (is_free s dir name) _ h).0
-  same-seated (Setq dir query told) h = sym (same-holder dir) ∙ (and_parts (is_made_holder s dir) _ h).0
-  same-seated (Unq dir) h = sym (same-semantic dir) ∙ h
-  same-seated (Mark mark) h = sym (λ i. same-markable mark.item mark.kind i && same-semantic mark.dir i) ∙ h
-  same-seated (Mv entry dir name) h = sym (λ i. same-some entry i && not (same-document entry i) && same-free dir name i && not (same-inside dir entry i)) ∙ h
-  same-seated (Rm entry) h = sym (same-leaf entry) ∙ h
-  same-seated (Rmdir dir) h = sym (λ i. same-holder dir i && same-bare dir i) ∙ h
-  same-seated (Smount dir name space documents told) h =
-      let short = and_parts _ (are_documents_few s.version documents) h in
-      let well = and_parts (is_free s dir name && is_space_name space && are_documents documents) _ short.0 in
-      let named = and_parts (is_free s dir name && is_space_name space) (are_documents documents) well.0 in
-      let free = and_parts (is_free s dir name) (is_space_name space) named.0 in
-      and_from (is_free t dir name) (are_documents documents) (sym (same-free dir name) ∙ free.0) named.1
-  same-seated (Ssync mount documents told) h =
-      let short = and_parts _ (are_documents_few s.version documents) h in
-      let well = and_parts (is_mount_at s.entries mount && are_documents documents) _ short.0 in
-      let there = and_parts (is_mount_at s.entries mount) (are_documents documents) well.0 in
-      and_from (is_mount_at t.entries mount) (are_documents documents) (sym (same-mount mount) ∙ there.0) there.1
-  same-seated (Sumount mount) h = sym (same-mount mount) ∙ h
-  same-seated Step h = sym (due s.entries ∙ ap (λ (k : ℕ). nat_lt 0 k) (same-dirty) ∙ sym (due t.entries)) ∙ h
-  same-seated (Cd session dir) h = sym (λ i. is_space_name session && same-directory dir i) ∙ h
 
   -- both ask spaces for the same terms
   pub same-terms : terms_to_ask s.entries ≡ terms_to_ask t.entries

@@ -306,15 +306,6 @@ impl KeptState {
         sessions::has_place_for(version, self.parts.sessions.as_slice(), session, dir)
     }
 
-    /// How much the state would hold after an event. What it refers to is in the state; it may
-    /// exceed limits.
-    pub fn counts_after(&self, event: &Event) -> Counts
-        requires { IsTrue (is_placed self.now.state event.now) }
-        ensures { result ≡ counts (apply self.now.state event.now) }
-    {
-        self.parts.tree.counts_after(event)
-    }
-
     /// Whether mounts would keep no more answers than they may after an event. What it refers to is
     /// in the state. Where something was told, this goes over all answers that are kept.
     pub fn keeps_few_after(&self, alloc: Global, event: &Event) -> Result<bool, Memory>

@@ -1,11 +1,15 @@
 use Rattle.std.proofs.Common.{ap, sym, ◌∙◌}
 use Rattle.hac_model.specs.declared.versions.Version.{Version}
 use Rattle.event_check.specs.Fitting.{passes_none}
+use Rattle.event_check.proofs.CountedLemmas.{placed-seated}
 use Rattle.event_check.proofs.FittingLemmas.{accepts, not-placed, not-within}
 use Rattle.event_check.proofs.fitting.fits.Goals as goal
 
 pub returns-then-not-branch : goal.returns-then-not-branch
 returns-then-not-branch c = not-placed c.args.kept.now.state c.args.event.now (sym c.in_ok-is_placed.ensures ∙ c.if-not-branch.true)
+
+pub counts_after-requires : goal.counts_after-requires
+counts_after-requires c = placed-seated c.args.kept.now.state c.args.event.now (sym c.in_ok-is_placed.ensures ∙ c.if-not-branch.false)
 
 pub returns-then-not-passes_none : goal.returns-then-not-passes_none
 returns-then-not-passes_none c =

@@ -1,7 +1,7 @@
 use Rattle.std.proofs.Common.{sym, subst, ◌∙◌}
 use Rattle.std.specs.Prelude.{IsTrue}
 use Rattle.hac_model.specs.declared.events.Event.{Event}
-use Rattle.file_tree.specs.Seated.{is_seated}
+use Rattle.tree_counts.specs.Seated.{is_seated}
 use Rattle.hac_core.proofs.SettleLemmas.{change-is, seated-answering, unasked-change}
 use Rattle.hac_core.specs.Drafts.{answering}
 use Rattle.hac_core.proofs.settling.answered.Goals as goal
