@@ -21,8 +21,6 @@ pub mod SwapLemmas
 pub mod LongLemmas
 pub mod ShallowLemmas
 pub mod PlacedLemmas
-pub mod TraceLemmas
-pub mod WalkedLemmas
 pub mod OverLemmas
 pub mod FoundLemmas
 pub mod NumberLemmas

@@ -8,7 +8,5 @@ pub mod Answers
 pub mod Counting
 pub mod Depths
 pub mod Changes
-pub mod Traces
-pub mod Walked
 pub mod Seated
 pub mod Loading
