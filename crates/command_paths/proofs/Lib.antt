@@ -1,1 +1,3 @@
 mod ResolveLemmas
+mod TraceLemmas
+mod WalkedLemmas

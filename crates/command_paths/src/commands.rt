@@ -34,7 +34,7 @@ fn resolve(
     ensures { Answers result (resolved_for tree.now.state session base command) }
 {
     match command {
-        Command::Cd { path } => cd(tree, session, base, &path),
+        Command::Cd { path } => cd(alloc, tree, session, base, &path),
         other => follow(alloc, tree, base, other),
     }
 }
@@ -45,28 +45,28 @@ fn follow(alloc: Global, tree: &Tree, base: Number, command: Command) -> Result<
     ensures { Answers result (resolved tree.now.state base command) }
 {
     match command {
-        Command::Mkdir { path } => mkdir(tree, base, &path),
-        Command::Rmdir { path } => rmdir(tree, base, &path),
-        Command::Write { path, text } => write(tree, base, &path, text),
-        Command::Cat { path } => cat(tree, base, &path),
-        Command::Ls { path } => ls(tree, base, &path),
+        Command::Mkdir { path } => mkdir(alloc, tree, base, &path),
+        Command::Rmdir { path } => rmdir(alloc, tree, base, &path),
+        Command::Write { path, text } => write(alloc, tree, base, &path, text),
+        Command::Cat { path } => cat(alloc, tree, base, &path),
+        Command::Ls { path } => ls(alloc, tree, base, &path),
         Command::Pwd => Ok(Resolved::Pwd { dir: base }),
-        Command::Mv { from, to } => mv(tree, base, &from, &to),
-        Command::Rm { path } => rm(tree, base, &path),
-        Command::Ln { target, path } => ln(tree, base, target, &path),
-        Command::Readlink { path } => readlink(tree, base, &path),
+        Command::Mv { from, to } => mv(alloc, tree, base, &from, &to),
+        Command::Rm { path } => rm(alloc, tree, base, &path),
+        Command::Ln { target, path } => ln(alloc, tree, base, target, &path),
+        Command::Readlink { path } => readlink(alloc, tree, base, &path),
         Command::Smkdir { path, query } => smkdir(alloc, tree, base, &path, query),
         Command::Setq { path, query } => setq(alloc, tree, base, &path, query),
-        Command::Unq { path } => unq(tree, base, &path),
-        Command::Query { path } => query(tree, base, &path),
-        Command::Sls { path } => sls(tree, base, &path),
-        Command::Sln { item, dir } => sln(tree, base, &item, &dir),
-        Command::Srm { item, dir } => srm(tree, base, &item, &dir),
-        Command::Sforget { item, dir } => sforget(tree, base, &item, &dir),
+        Command::Unq { path } => unq(alloc, tree, base, &path),
+        Command::Query { path } => query(alloc, tree, base, &path),
+        Command::Sls { path } => sls(alloc, tree, base, &path),
+        Command::Sln { item, dir } => sln(alloc, tree, base, &item, &dir),
+        Command::Srm { item, dir } => srm(alloc, tree, base, &item, &dir),
+        Command::Sforget { item, dir } => sforget(alloc, tree, base, &item, &dir),
         Command::Find { query } => find(alloc, tree, base, query),
-        Command::Smount { path, space } => smount(tree, base, &path, space),
-        Command::Ssync { path } => ssync(tree, base, &path),
-        Command::Sumount { path } => sumount(tree, base, &path),
+        Command::Smount { path, space } => smount(alloc, tree, base, &path, space),
+        Command::Ssync { path } => ssync(alloc, tree, base, &path),
+        Command::Sumount { path } => sumount(alloc, tree, base, &path),
         Command::Index => Ok(Resolved::Index),
         Command::Tick { steps } => Ok(Resolved::Tick { steps }),
         Command::Counts => Ok(Resolved::Counts),
@@ -76,95 +76,119 @@ fn follow(alloc: Global, tree: &Tree, base: Number, command: Command) -> Result<
 }
 
 /// `mkdir PATH`.
-fn mkdir(tree: &Tree, base: Number, path: &PathWord) -> Result<Resolved, Deny>
+fn mkdir(alloc: Global, tree: &Tree, base: Number, path: &PathWord) -> Result<Resolved, Deny>
     requires { IsTrue (is_directory_at tree.now.state.entries base) }
     ensures { Answers result (resolved tree.now.state base (Command.Mkdir path.now)) }
 {
-    let place = slot(tree, base, path, true)?;
+    let place = slot(alloc, tree, base, path, true)?;
     Ok(Resolved::Mkdir { place })
 }
 
 /// `rmdir PATH`.
-fn rmdir(tree: &Tree, base: Number, path: &PathWord) -> Result<Resolved, Deny>
+fn rmdir(alloc: Global, tree: &Tree, base: Number, path: &PathWord) -> Result<Resolved, Deny>
     requires { IsTrue (is_directory_at tree.now.state.entries base) }
     ensures { Answers result (resolved tree.now.state base (Command.Rmdir path.now)) }
 {
-    let dir = holder(tree, base, path)?;
+    let dir = holder(alloc, tree, base, path)?;
     Ok(Resolved::Rmdir { dir })
 }
 
 /// `write PATH TEXT`.
-fn write(tree: &Tree, base: Number, path: &PathWord, text: Text) -> Result<Resolved, Deny>
+fn write(
+    alloc: Global,
+    tree: &Tree,
+    base: Number,
+    path: &PathWord,
+    text: Text,
+) -> Result<Resolved, Deny>
     requires { IsTrue (is_directory_at tree.now.state.entries base) }
     ensures { Answers result (resolved tree.now.state base (Command.Write path.now text)) }
 {
-    let place = slot(tree, base, path, true)?;
+    let place = slot(alloc, tree, base, path, true)?;
     Ok(Resolved::Write { place, text })
 }
 
 /// `cat PATH`.
-fn cat(tree: &Tree, base: Number, path: &PathWord) -> Result<Resolved, Deny>
+fn cat(alloc: Global, tree: &Tree, base: Number, path: &PathWord) -> Result<Resolved, Deny>
     requires { IsTrue (is_directory_at tree.now.state.entries base) }
     ensures { Answers result (resolved tree.now.state base (Command.Cat path.now)) }
 {
-    let entry = entry(tree, base, path, true)?;
+    let entry = entry(alloc, tree, base, path, true)?;
     Ok(Resolved::Cat { entry })
 }
 
 /// `ls` with a path or without.
-fn ls(tree: &Tree, base: Number, path: &Option<PathWord>) -> Result<Resolved, Deny>
+fn ls(alloc: Global, tree: &Tree, base: Number, path: &Option<PathWord>) -> Result<Resolved, Deny>
     requires { IsTrue (is_directory_at tree.now.state.entries base) }
     ensures { Answers result (resolved tree.now.state base (Command.Ls path.now)) }
 {
-    let dir = listed_directory(tree, base, path)?;
+    let dir = listed_directory(alloc, tree, base, path)?;
     Ok(Resolved::Ls { dir })
 }
 
 /// `cd` with a path or without.
-fn cd(tree: &Tree, session: Name, base: Number, path: &Option<PathWord>) -> Result<Resolved, Deny>
+fn cd(
+    alloc: Global,
+    tree: &Tree,
+    session: Name,
+    base: Number,
+    path: &Option<PathWord>,
+) -> Result<Resolved, Deny>
     requires { IsTrue (is_directory_at tree.now.state.entries base) }
     ensures { Answers result (resolved_for tree.now.state session base (Command.Cd path.now)) }
 {
-    match directory_or_root(tree, base, path) {
+    match directory_or_root(alloc, tree, base, path) {
         Ok(dir) => Ok(Resolved::Cd { session, dir }),
         Err(deny) => Err(deny),
     }
 }
 
 /// `mv FROM TO`.
-fn mv(tree: &Tree, base: Number, from: &PathWord, to: &PathWord) -> Result<Resolved, Deny>
+fn mv(
+    alloc: Global,
+    tree: &Tree,
+    base: Number,
+    from: &PathWord,
+    to: &PathWord,
+) -> Result<Resolved, Deny>
     requires { IsTrue (is_directory_at tree.now.state.entries base) }
     ensures { Answers result (resolved tree.now.state base (Command.Mv from.now to.now)) }
 {
-    let entry = own_entry(tree, base, from, false)?;
-    let place = slot(tree, base, to, false)?;
+    let entry = own_entry(alloc, tree, base, from, false)?;
+    let place = slot(alloc, tree, base, to, false)?;
     Ok(Resolved::Mv { entry, place })
 }
 
 /// `rm PATH`.
-fn rm(tree: &Tree, base: Number, path: &PathWord) -> Result<Resolved, Deny>
+fn rm(alloc: Global, tree: &Tree, base: Number, path: &PathWord) -> Result<Resolved, Deny>
     requires { IsTrue (is_directory_at tree.now.state.entries base) }
     ensures { Answers result (resolved tree.now.state base (Command.Rm path.now)) }
 {
-    let entry = own_entry(tree, base, path, false)?;
+    let entry = own_entry(alloc, tree, base, path, false)?;
     Ok(Resolved::Rm { entry })
 }
 
 /// `ln TARGET PATH`.
-fn ln(tree: &Tree, base: Number, target: Text, path: &PathWord) -> Result<Resolved, Deny>
+fn ln(
+    alloc: Global,
+    tree: &Tree,
+    base: Number,
+    target: Text,
+    path: &PathWord,
+) -> Result<Resolved, Deny>
     requires { IsTrue (is_directory_at tree.now.state.entries base) }
     ensures { Answers result (resolved tree.now.state base (Command.Ln target path.now)) }
 {
-    let place = slot(tree, base, path, false)?;
+    let place = slot(alloc, tree, base, path, false)?;
     Ok(Resolved::Ln { place, target })
 }
 
 /// `readlink PATH`.
-fn readlink(tree: &Tree, base: Number, path: &PathWord) -> Result<Resolved, Deny>
+fn readlink(alloc: Global, tree: &Tree, base: Number, path: &PathWord) -> Result<Resolved, Deny>
     requires { IsTrue (is_directory_at tree.now.state.entries base) }
     ensures { Answers result (resolved tree.now.state base (Command.Readlink path.now)) }
 {
-    let entry = entry(tree, base, path, false)?;
+    let entry = entry(alloc, tree, base, path, false)?;
     Ok(Resolved::Readlink { entry })
 }
 
@@ -179,7 +203,7 @@ fn smkdir(
     requires { IsTrue (is_directory_at tree.now.state.entries base) }
     ensures { Answers result (resolved tree.now.state base (Command.Smkdir path.now query)) }
 {
-    let place = slot(tree, base, path, true)?;
+    let place = slot(alloc, tree, base, path, true)?;
     match numbered_query(alloc, tree, base, query) {
         Ok(query) => Ok(Resolved::Smkdir { place, query }),
         Err(deny) => Err(deny),
@@ -197,7 +221,7 @@ fn setq(
     requires { IsTrue (is_directory_at tree.now.state.entries base) }
     ensures { Answers result (resolved tree.now.state base (Command.Setq path.now query)) }
 {
-    let dir = holder(tree, base, path)?;
+    let dir = holder(alloc, tree, base, path)?;
     match numbered_query(alloc, tree, base, query) {
         Ok(query) => Ok(Resolved::Setq { dir, query }),
         Err(deny) => Err(deny),
@@ -205,61 +229,80 @@ fn setq(
 }
 
 /// `unq PATH`.
-fn unq(tree: &Tree, base: Number, path: &PathWord) -> Result<Resolved, Deny>
+fn unq(alloc: Global, tree: &Tree, base: Number, path: &PathWord) -> Result<Resolved, Deny>
     requires { IsTrue (is_directory_at tree.now.state.entries base) }
     ensures { Answers result (resolved tree.now.state base (Command.Unq path.now)) }
 {
-    let dir = directory(tree, base, path)?;
+    let dir = directory(alloc, tree, base, path)?;
     Ok(Resolved::Unq { dir })
 }
 
 /// `query PATH`.
-fn query(tree: &Tree, base: Number, path: &PathWord) -> Result<Resolved, Deny>
+fn query(alloc: Global, tree: &Tree, base: Number, path: &PathWord) -> Result<Resolved, Deny>
     requires { IsTrue (is_directory_at tree.now.state.entries base) }
     ensures { Answers result (resolved tree.now.state base (Command.Query path.now)) }
 {
-    let dir = directory(tree, base, path)?;
+    let dir = directory(alloc, tree, base, path)?;
     Ok(Resolved::Query { dir })
 }
 
 /// `sls` with a path or without.
-fn sls(tree: &Tree, base: Number, path: &Option<PathWord>) -> Result<Resolved, Deny>
+fn sls(alloc: Global, tree: &Tree, base: Number, path: &Option<PathWord>) -> Result<Resolved, Deny>
     requires { IsTrue (is_directory_at tree.now.state.entries base) }
     ensures { Answers result (resolved tree.now.state base (Command.Sls path.now)) }
 {
-    let dir = listed_directory(tree, base, path)?;
+    let dir = listed_directory(alloc, tree, base, path)?;
     Ok(Resolved::Sls { dir })
 }
 
 /// `sln ITEM DIR`.
-fn sln(tree: &Tree, base: Number, item: &PathWord, dir: &PathWord) -> Result<Resolved, Deny>
+fn sln(
+    alloc: Global,
+    tree: &Tree,
+    base: Number,
+    item: &PathWord,
+    dir: &PathWord,
+) -> Result<Resolved, Deny>
     requires { IsTrue (is_directory_at tree.now.state.entries base) }
     ensures { Answers result (resolved tree.now.state base (Command.Sln item.now dir.now)) }
 {
-    let (item, dir) = item_and_directory(tree, base, item, dir)?;
+    let (item, dir) = item_and_directory(alloc, tree, base, item, dir)?;
     Ok(Resolved::Sln { item, dir })
 }
 
 /// `srm ITEM DIR`.
-fn srm(tree: &Tree, base: Number, item: &PathWord, dir: &PathWord) -> Result<Resolved, Deny>
+fn srm(
+    alloc: Global,
+    tree: &Tree,
+    base: Number,
+    item: &PathWord,
+    dir: &PathWord,
+) -> Result<Resolved, Deny>
     requires { IsTrue (is_directory_at tree.now.state.entries base) }
     ensures { Answers result (resolved tree.now.state base (Command.Srm item.now dir.now)) }
 {
-    let (item, dir) = item_and_directory(tree, base, item, dir)?;
+    let (item, dir) = item_and_directory(alloc, tree, base, item, dir)?;
     Ok(Resolved::Srm { item, dir })
 }
 
 /// `sforget ITEM DIR`.
-fn sforget(tree: &Tree, base: Number, item: &PathWord, dir: &PathWord) -> Result<Resolved, Deny>
+fn sforget(
+    alloc: Global,
+    tree: &Tree,
+    base: Number,
+    item: &PathWord,
+    dir: &PathWord,
+) -> Result<Resolved, Deny>
     requires { IsTrue (is_directory_at tree.now.state.entries base) }
     ensures { Answers result (resolved tree.now.state base (Command.Sforget item.now dir.now)) }
 {
-    let (item, dir) = item_and_directory(tree, base, item, dir)?;
+    let (item, dir) = item_and_directory(alloc, tree, base, item, dir)?;
     Ok(Resolved::Sforget { item, dir })
 }
 
 /// The item and the directory to which two path words lead, whatever is made of them.
 fn item_and_directory(
+    alloc: Global,
     tree: &Tree,
     base: Number,
     item: &PathWord,
@@ -269,8 +312,8 @@ fn item_and_directory(
     ensures { (make : ℕ → ℕ → Resolved) → AnswersSeen (λ found. make found.0 found.1) result
         (item_and_dir make tree.now.state base item.now dir.now) }
 {
-    let item = entry(tree, base, item, true)?;
-    let dir = directory(tree, base, dir)?;
+    let item = entry(alloc, tree, base, item, true)?;
+    let dir = directory(alloc, tree, base, dir)?;
     Ok((item, dir))
 }
 
@@ -284,28 +327,34 @@ fn find(alloc: Global, tree: &Tree, base: Number, query: RawQuery) -> Result<Res
 }
 
 /// `smount PATH SPACE`.
-fn smount(tree: &Tree, base: Number, path: &PathWord, space: Name) -> Result<Resolved, Deny>
+fn smount(
+    alloc: Global,
+    tree: &Tree,
+    base: Number,
+    path: &PathWord,
+    space: Name,
+) -> Result<Resolved, Deny>
     requires { IsTrue (is_directory_at tree.now.state.entries base) }
     ensures { Answers result (resolved tree.now.state base (Command.Smount path.now space)) }
 {
-    let place = slot(tree, base, path, true)?;
+    let place = slot(alloc, tree, base, path, true)?;
     Ok(Resolved::Smount { place, space })
 }
 
 /// `ssync PATH`.
-fn ssync(tree: &Tree, base: Number, path: &PathWord) -> Result<Resolved, Deny>
+fn ssync(alloc: Global, tree: &Tree, base: Number, path: &PathWord) -> Result<Resolved, Deny>
     requires { IsTrue (is_directory_at tree.now.state.entries base) }
     ensures { Answers result (resolved tree.now.state base (Command.Ssync path.now)) }
 {
-    let mount = directory(tree, base, path)?;
+    let mount = directory(alloc, tree, base, path)?;
     Ok(Resolved::Ssync { mount })
 }
 
 /// `sumount PATH`.
-fn sumount(tree: &Tree, base: Number, path: &PathWord) -> Result<Resolved, Deny>
+fn sumount(alloc: Global, tree: &Tree, base: Number, path: &PathWord) -> Result<Resolved, Deny>
     requires { IsTrue (is_directory_at tree.now.state.entries base) }
     ensures { Answers result (resolved tree.now.state base (Command.Sumount path.now)) }
 {
-    let mount = directory(tree, base, path)?;
+    let mount = directory(alloc, tree, base, path)?;
     Ok(Resolved::Sumount { mount })
 }

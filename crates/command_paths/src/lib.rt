@@ -5,6 +5,7 @@
 #![tactic(auto)]
 
 mod commands;
+mod placing;
 mod resolving;
 
 pub use commands::followed;

@@ -1,23 +1,28 @@
-//! Where path words lead.
-ghost use Rattle.std.specs.Prelude.{◌≡◌, ◌++◌, ◌∷◌, [], IfOk, IsTrue, Some};
+//! Places, entries and directories to which path words lead, and refusals where they lead to none.
+ghost use Rattle.std.specs.Prelude.{◌≡◌, IsTrue, Some};
 ghost use Rattle.hac_model.specs.Run.Answers.{Answers, Refuses};
 ghost use Rattle.hac_model.specs.Run.Resolving.{place, entry, directory, directory_or_root};
 ghost use Rattle.hac_model.specs.Run.Resolving.{holder, listed_directory, mount_of};
 ghost use Rattle.hac_model.specs.Run.Resolving.{numbered_query, outside_mounts, own_entry, slot};
 ghost use Rattle.hac_model.specs.Tree.{is_directory_at, path_of};
 
-use file_tree::{Stop, Tree};
-use hac_model::{
-    Deny, Memory, Name, Node, Number, Path, PathWord, Place, Query, RawQuery, Refusal,
-};
+use crate::placing::{self, Stop, named};
+use file_tree::Tree;
+use hac_model::{Deny, Node, Number, PathWord, Place, Query, RawQuery, Refusal};
 use std::alloc::Global;
 
 /// Where a path word leads from a directory. A symbolic link as its last name is followed or not.
-pub fn place(tree: &Tree, base: Number, word: &PathWord, follow: bool) -> Result<Place, Deny>
+pub fn place(
+    alloc: Global,
+    tree: &Tree,
+    base: Number,
+    word: &PathWord,
+    follow: bool,
+) -> Result<Place, Deny>
     requires { IsTrue (is_directory_at tree.now.state.entries base) }
     ensures { Answers result (place tree.now.state base follow word.now) }
 {
-    match tree.place(base, word, follow) {
+    match placing::place(alloc, tree, base, word, follow) {
         Ok(place) => Ok(place),
         Err(Stop::Missing(path)) => Err(Deny::Refused(Refusal::NoPath(path))),
         Err(Stop::NotDir(path)) => Err(Deny::Refused(Refusal::NotDir(path))),
@@ -27,11 +32,17 @@ pub fn place(tree: &Tree, base: Number, word: &PathWord, follow: bool) -> Result
 }
 
 /// Where a path word leads from a directory, so that something can be put there: not into a mount.
-pub fn slot(tree: &Tree, base: Number, word: &PathWord, follow: bool) -> Result<Place, Deny>
+pub fn slot(
+    alloc: Global,
+    tree: &Tree,
+    base: Number,
+    word: &PathWord,
+    follow: bool,
+) -> Result<Place, Deny>
     requires { IsTrue (is_directory_at tree.now.state.entries base) }
     ensures { Answers result (slot tree.now.state base follow word.now) }
 {
-    match place(tree, base, word, follow) {
+    match place(alloc, tree, base, word, follow) {
         Ok(found) => outside_mounts(tree, found),
         Err(deny) => Err(deny),
     }
@@ -84,31 +95,34 @@ fn in_mount(tree: &Tree, mount: Number) -> Deny
 
 /// The entry to which a path word leads, or the root. A symbolic link as its last name is followed
 /// or not.
-pub fn entry(tree: &Tree, base: Number, word: &PathWord, follow: bool) -> Result<Number, Deny>
+pub fn entry(
+    alloc: Global,
+    tree: &Tree,
+    base: Number,
+    word: &PathWord,
+    follow: bool,
+) -> Result<Number, Deny>
     requires { IsTrue (is_directory_at tree.now.state.entries base) }
     ensures { Answers result (entry tree.now.state base follow word.now) }
 {
-    match place(tree, base, word, follow)? {
+    match place(alloc, tree, base, word, follow)? {
         Place::There(number) => Ok(number),
         Place::Free { dir, name } => Err(Deny::Refused(Refusal::NoPath(named(tree, dir, name)?))),
     }
 }
 
-/// The path of a name in a directory.
-fn named(tree: &Tree, dir: Number, name: Name) -> Result<Path, Memory>
-    ensures { IfOk result (λ path. path ≡ path_of tree.now.state dir ++ name ∷ []) }
-{
-    let mut path = tree.path_of(dir)?;
-    path.push(name)?;
-    Ok(path)
-}
-
 /// The entry to which a path word leads, or the root, which isn't a document.
-pub fn own_entry(tree: &Tree, base: Number, word: &PathWord, follow: bool) -> Result<Number, Deny>
+pub fn own_entry(
+    alloc: Global,
+    tree: &Tree,
+    base: Number,
+    word: &PathWord,
+    follow: bool,
+) -> Result<Number, Deny>
     requires { IsTrue (is_directory_at tree.now.state.entries base) }
     ensures { Answers result (own_entry tree.now.state base follow word.now) }
 {
-    let number = entry(tree, base, word, follow)?;
+    let number = entry(alloc, tree, base, word, follow)?;
     if tree.is_document(number) {
         return Err(in_mount(tree, tree.parent(number)));
     }
@@ -116,11 +130,11 @@ pub fn own_entry(tree: &Tree, base: Number, word: &PathWord, follow: bool) -> Re
 }
 
 /// The directory to which a path word leads.
-pub fn directory(tree: &Tree, base: Number, word: &PathWord) -> Result<Number, Deny>
+pub fn directory(alloc: Global, tree: &Tree, base: Number, word: &PathWord) -> Result<Number, Deny>
     requires { IsTrue (is_directory_at tree.now.state.entries base) }
     ensures { Answers result (directory tree.now.state base word.now) }
 {
-    let number = entry(tree, base, word, true)?;
+    let number = entry(alloc, tree, base, word, true)?;
     if tree.is_directory(number) {
         Ok(number)
     } else {
@@ -129,11 +143,11 @@ pub fn directory(tree: &Tree, base: Number, word: &PathWord) -> Result<Number, D
 }
 
 /// The directory to which a path word leads, which isn't a mount.
-pub fn holder(tree: &Tree, base: Number, word: &PathWord) -> Result<Number, Deny>
+pub fn holder(alloc: Global, tree: &Tree, base: Number, word: &PathWord) -> Result<Number, Deny>
     requires { IsTrue (is_directory_at tree.now.state.entries base) }
     ensures { Answers result (holder tree.now.state base word.now) }
 {
-    let dir = directory(tree, base, word)?;
+    let dir = directory(alloc, tree, base, word)?;
     if tree.is_mount(dir) {
         return Err(in_mount(tree, dir));
     }
@@ -141,23 +155,33 @@ pub fn holder(tree: &Tree, base: Number, word: &PathWord) -> Result<Number, Deny
 }
 
 /// The directory to which a path word leads, the one that it would go on from if none is given.
-pub fn listed_directory(tree: &Tree, base: Number, word: &Option<PathWord>) -> Result<Number, Deny>
+pub fn listed_directory(
+    alloc: Global,
+    tree: &Tree,
+    base: Number,
+    word: &Option<PathWord>,
+) -> Result<Number, Deny>
     requires { IsTrue (is_directory_at tree.now.state.entries base) }
     ensures { Answers result (listed_directory tree.now.state base word.now) }
 {
     match word {
-        Some(word) => directory(tree, base, word),
+        Some(word) => directory(alloc, tree, base, word),
         None => Ok(base),
     }
 }
 
 /// The directory to which a path word leads, the root if none is given.
-pub fn directory_or_root(tree: &Tree, base: Number, word: &Option<PathWord>) -> Result<Number, Deny>
+pub fn directory_or_root(
+    alloc: Global,
+    tree: &Tree,
+    base: Number,
+    word: &Option<PathWord>,
+) -> Result<Number, Deny>
     requires { IsTrue (is_directory_at tree.now.state.entries base) }
     ensures { Answers result (directory_or_root tree.now.state base word.now) }
 {
     match word {
-        Some(word) => directory(tree, base, word),
+        Some(word) => directory(alloc, tree, base, word),
         None => Ok(Number::ROOT),
     }
 }
@@ -174,7 +198,7 @@ pub fn numbered_query(
 {
     match query.node {
         Node::Term(term) => Ok(Query::term(term)),
-        Node::Dir(word) => Ok(Query::dir(directory(tree, base, &word)?)),
+        Node::Dir(word) => Ok(Query::dir(directory(alloc, tree, base, &word)?)),
         Node::Not(query) => {
             let inner = numbered_query(alloc, tree, base, Box::into_inner(query))?;
             Ok(Query::negation(alloc, inner)?)

@@ -15,8 +15,6 @@ pub mod OrderLemmas
 pub mod DirtyLemmas
 pub mod IndexedLemmas
 pub mod TreeLemmas
-pub mod TraceLemmas
-pub mod WalkedLemmas
 pub mod OverLemmas
 pub mod FoundLemmas
 pub mod NumberLemmas

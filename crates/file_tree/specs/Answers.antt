@@ -1,29 +1,12 @@
 -- What the calls of a tree answer.
-use Rattle.std.specs.Prelude.{◌≡◌, ⊤, ℕ, Bool, false, nat_lt, List, filter, map, Result, Err}
+use Rattle.std.specs.Prelude.{ℕ, Bool, false, nat_lt, List, filter, map}
 use Rattle.std.specs.Option.{option_map_or}
-use Rattle.hac_model.specs.Run.Answers.{Gives}
 use Rattle.hac_model.specs.Tree.{body_at, is_dirty}
-use Rattle.hac_model.specs.declared.places.Place.{Place}
-use Rattle.hac_model.specs.declared.replies.Refusal.{Refusal}
-use Rattle.hac_model.specs.declared.replies.Refusal.TheVariants as refusal
 use Rattle.hac_model.specs.declared.states.Body.{Body}
 use Rattle.hac_model.specs.declared.states.Body.TheVariants as body
 use Rattle.hac_model.specs.declared.states.Entry.{Entry}
-use Rattle.file_tree.specs.declared.placing.Stop.{Stop}
-use Rattle.file_tree.specs.declared.placing.Stop.TheVariants.{Missing, NotDir, Loop, Memory}
 use Rattle.file_tree.specs.declared.tree.EntryKind.{EntryKind}
 use Rattle.file_tree.specs.declared.tree.EntryKind.TheVariants.{File, Dir, Symlink, Semantic, Mount, Document}
-
--- the stop is for the refusal that is wanted; memory may run out in place of any answer
-abbrev pub IsPlaceFault : Stop → Result Place Refusal → Type 0
-IsPlaceFault (Missing path) wanted = wanted ≡ Err (refusal.NoPath path)
-IsPlaceFault (NotDir path) wanted = wanted ≡ Err (refusal.NotDir path)
-IsPlaceFault (Loop path) wanted = wanted ≡ Err (refusal.Loop path)
-IsPlaceFault Memory wanted = ⊤
-
--- the look-up gave what is wanted, the place or the stop
-abbrev pub Finds : Result Place Stop → Result Place Refusal → Type 0
-Finds result wanted = Gives IsPlaceFault result wanted
 
 abbrev pub entry_kind : Body → EntryKind
 entry_kind (body.File text dirty shown) = File

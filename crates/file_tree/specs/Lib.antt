@@ -6,6 +6,4 @@ pub mod Seen
 pub mod Shape
 pub mod Answers
 pub mod Changes
-pub mod Traces
-pub mod Walked
 pub mod Loading

@@ -1,4 +1,4 @@
-//! The tree of files and directories as numbered nodes: where a path leads, and changes by number.
+//! The tree of files and directories as numbered nodes: what it holds, and changes by number.
 //! It knows no line, no store and no outside.
 #![tactic(auto)]
 
@@ -8,13 +8,11 @@ mod loading;
 mod mounting;
 mod nodes;
 mod paths;
-mod placing;
 mod ready;
 mod searching;
 mod targets;
 mod tree;
 
 pub use nodes::NewBody;
-pub use placing::Stop;
 pub use ready::Ready;
 pub use tree::{EntryKind, Tree};

@@ -6,6 +6,7 @@ ghost use Rattle.hac_model.specs.Tree.Events.{is_bare, next_dirty};
 ghost use Rattle.hac_model.specs.Tree.Limits.{counts};
 ghost use Rattle.hac_model.specs.Tree.Links.{is_item, parent_of, query_at, shown_of, space_at};
 ghost use Rattle.hac_model.specs.Tree.Listing.{children};
+ghost use Rattle.hac_model.specs.Tree.Looks.{target_word};
 ghost use Rattle.hac_model.specs.Tree.{body_at, child, entry_at, is_directory_at};
 ghost use Rattle.hac_model.specs.Tree.{is_document_at, is_file_at, is_made_directory, is_mount_at};
 ghost use Rattle.hac_model.specs.Tree.{is_symlink_at, raised, root_alone, target_in, text_in};
@@ -18,7 +19,7 @@ use crate::nodes::{self, Content, Nodes, children_at};
 use crate::ready::Ready;
 use crate::searching::named;
 use entry_counts::of_root;
-use hac_model::{Counts, Memory, Name, Number, Query, Text, Version};
+use hac_model::{Counts, Memory, Name, Number, PathWord, Query, Text, Version};
 use indexmap::IndexMap;
 use std::alloc::Global;
 use std::collections::BTreeSet;
@@ -236,6 +237,14 @@ impl Tree {
             option_and_then target_in (body_at self.now.state.entries link) }
     {
         Some(self.content(link)?.target()?.bytes())
+    }
+
+    /// The word by which a symbolic link leads.
+    pub fn target_word(&self, link: Number) -> Option<&PathWord>
+        ensures { option_copied result ≡ option_and_then target_word
+            (option_and_then target_in (body_at self.now.state.entries link)) }
+    {
+        Some(self.content(link)?.target()?.word())
     }
 
     /// Whether a directory has the number.

@@ -22,7 +22,7 @@ use Rattle.hac_model.proofs.PathLemmas.{parent-directory, path_of-parent, path_o
 use Rattle.hac_model.proofs.PlainLemmas.{stands-last, stands-path}
 use Rattle.hac_model.proofs.TreeLemmas.{Lives, child-entry, directory-lives}
 use Rattle.hac_model.proofs.Walks.{destination-walk, walk}
-use Rattle.file_tree.specs.Traces.{begin, step_to, steps, trace, up, word_met}
+use Rattle.command_paths.specs.Traces.{begin, step_to, steps, trace, up, word_met}
 
 -- Where words begin.
 

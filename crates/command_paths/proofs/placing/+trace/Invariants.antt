@@ -1,4 +1,4 @@
-use Rattle.file_tree.proofs.tree.Tree.+trace.Given as goal
+use Rattle.command_paths.proofs.placing.+trace.Given as goal
 
 abbrev pub decreases-trace : goal.decreases-trace
 decreases-trace l = l.links

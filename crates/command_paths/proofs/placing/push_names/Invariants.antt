@@ -1,6 +1,6 @@
 use Rattle.std.proofs.Common.{◌≡◌, ◌++◌, reverse}
-use Rattle.file_tree.specs.Walked.{names_of}
-use Rattle.file_tree.proofs.placing.push_names.Given as goal
+use Rattle.command_paths.specs.Walked.{names_of}
+use Rattle.command_paths.proofs.placing.push_names.Given as goal
 
 -- the names so far are above those that were left
 abbrev pub invariant-loop-name : goal.invariant-loop-name

@@ -1,6 +1,7 @@
 -- What the calls of a walk answer.
 use Rattle.std.specs.Prelude.{◌≡◌, ⊤, ℕ, Bool, List, Option, Some, None, Result, Ok, Err, IsTrue, map}
 use Rattle.std.specs.Borrow.{Bor}
+use Rattle.hac_model.specs.Run.Answers.{Gives}
 use Rattle.hac_model.specs.Tree.{is_directory_at}
 use Rattle.hac_model.specs.declared.paths.PathWord.{PathWord}
 use Rattle.hac_model.specs.declared.places.Place.{Place}
@@ -8,13 +9,24 @@ use Rattle.hac_model.specs.declared.replies.Refusal.{Refusal}
 use Rattle.hac_model.specs.declared.replies.Refusal.TheVariants as refusal
 use Rattle.hac_model.specs.declared.states.Entry.{Entry}
 use Rattle.hac_model.specs.declared.states.State.{State}
-use Rattle.file_tree.specs.Answers.{IsPlaceFault}
-use Rattle.file_tree.specs.declared.placing.Met.{Met}
-use Rattle.file_tree.specs.declared.placing.Met.TheVariants as met
-use Rattle.file_tree.specs.declared.placing.Stop.{Stop}
-use Rattle.file_tree.specs.declared.placing.Walked.{Walked}
-use Rattle.file_tree.specs.declared.placing.Walked.TheVariants as walked
-use Rattle.file_tree.specs.Traces.{steps}
+use Rattle.command_paths.specs.declared.placing.Met.{Met}
+use Rattle.command_paths.specs.declared.placing.Met.TheVariants as met
+use Rattle.command_paths.specs.declared.placing.Stop.{Stop}
+use Rattle.command_paths.specs.declared.placing.Stop.TheVariants.{Missing, NotDir, Loop, Memory}
+use Rattle.command_paths.specs.declared.placing.Walked.{Walked}
+use Rattle.command_paths.specs.declared.placing.Walked.TheVariants as walked
+use Rattle.command_paths.specs.Traces.{steps}
+
+-- the stop is for the refusal that is wanted; memory may run out in place of any answer
+abbrev pub IsPlaceFault : Stop → Result Place Refusal → Type 0
+IsPlaceFault (Missing path) wanted = wanted ≡ Err (refusal.NoPath path)
+IsPlaceFault (NotDir path) wanted = wanted ≡ Err (refusal.NotDir path)
+IsPlaceFault (Loop path) wanted = wanted ≡ Err (refusal.Loop path)
+IsPlaceFault Memory wanted = ⊤
+
+-- the look-up gave what is wanted, the place or the stop
+abbrev pub Finds : Result Place Stop → Result Place Refusal → Type 0
+Finds result wanted = Gives IsPlaceFault result wanted
 
 -- the names that are left, the next one first
 abbrev pub names_of : List (Bor (List ℕ)) → List (List ℕ)

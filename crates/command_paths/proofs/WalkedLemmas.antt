@@ -15,11 +15,11 @@ use Rattle.hac_model.specs.declared.places.Place.{Place}
 use Rattle.hac_model.specs.declared.places.Place.TheVariants.{There, Free}
 use Rattle.hac_model.specs.declared.replies.Refusal.{Refusal}
 use Rattle.hac_model.specs.declared.states.State.{State}
-use Rattle.file_tree.specs.Traces.{begin, step_to, steps, trace, up, word_at, word_met}
-use Rattle.file_tree.specs.Walked.{Meets, names_of}
-use Rattle.file_tree.specs.declared.placing.Met.{Met}
-use Rattle.file_tree.specs.declared.placing.Stop.{Stop}
-use Rattle.file_tree.proofs.TraceLemmas.{look-traced}
+use Rattle.command_paths.specs.Traces.{begin, step_to, steps, trace, up, word_at, word_met}
+use Rattle.command_paths.specs.Walked.{Meets, names_of}
+use Rattle.command_paths.specs.declared.placing.Met.{Met}
+use Rattle.command_paths.specs.declared.placing.Stop.{Stop}
+use Rattle.command_paths.proofs.TraceLemmas.{look-traced}
 
 -- one step is made of those that are left
 pub up-next : (s : State) (all done above : ℕ) → done < all → up (all - (done + 1)) s (parent_of s above) ≡ up (all - done) s above
