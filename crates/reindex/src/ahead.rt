@@ -1,10 +1,9 @@
 //! Steps that are to be taken, with all that is known before them.
 
+use crate::ways::Way;
 use hac_model::Number;
 use kept_state::KeptState;
 use link_kinds::Links;
-
-use crate::ways::Way;
 
 /// A state, what is kept beside it, and up to which number its files are to be indexed.
 #[derive(Clone, Copy)]

@@ -9,4 +9,4 @@ abbrev pub invariant-loop-file : goal.invariant-loop-file
 invariant-loop-file g l =
     AreSettled (state_before l.ahead) (state_behind l.ahead) (take l.file-index l.files) l.delta.items
     × (l.probes + length (drop l.file-index l.files) * weight (state_before l.ahead)
-        ≤ l.fn.probes + length l.files * weight (state_before l.ahead))
+    ≤ l.fn.probes + length l.files * weight (state_before l.ahead))
