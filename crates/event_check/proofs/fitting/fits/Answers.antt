@@ -8,8 +8,8 @@ use Rattle.event_check.proofs.fitting.fits.Goals as goal
 pub returns-then-not-branch : goal.returns-then-not-branch
 returns-then-not-branch c = not-placed c.args.kept.now.state c.args.event.now (sym c.in_ok-is_placed.ensures ∙ c.if-not-branch.true)
 
-pub counts_after-requires : goal.counts_after-requires
-counts_after-requires c = placed-seated c.args.kept.now.state c.args.event.now (sym c.in_ok-is_placed.ensures ∙ c.if-not-branch.false)
+pub counts_after-counts-requires : goal.counts_after-counts-requires
+counts_after-counts-requires c = placed-seated c.args.kept.now.state c.args.event.now (sym c.in_ok-is_placed.ensures ∙ c.if-not-branch.false)
 
 pub returns-then-not-passes_none : goal.returns-then-not-passes_none
 returns-then-not-passes_none c =
