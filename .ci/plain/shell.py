@@ -350,8 +350,8 @@ class Shell(Tree):
         self.refuse_plain(entry)
         _provide, found = self.provided()
         letters = {number: b"t " for number in found[entry.number]}
-        letters |= {number: b"p " for number in entry.permanent}
-        letters |= {number: b"x " for number in entry.prohibited}
+        letters.update((number, b"p ") for number in entry.permanent)
+        letters.update((number, b"x ") for number in entry.prohibited)
         return [letters[number] + self.path(number) for number in sorted(letters)]
 
     def do_sln(self, path, directory):
