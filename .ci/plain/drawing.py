@@ -3,7 +3,7 @@
 WORDS = ["w0", "w1", "w2", "W3", "w10", "x\xe9", "y"]
 NAMES = ["a", "b", "c", "d e", "e}", "f\\", "longlonglong"]
 ODD_PATHS = ["", "/\x01", "/" + "n" * 256, "/" + "n" * 255, "//", "/.", "..", "/a//b/"]
-ODD_TEXTS = ["\\n", "\\t", "\\\\", "\\x41", "\\x7f", "\\q", "\\x4", " ", "-w1", "w2w3"]
+ODD_TEXTS = ["\\n", "\\t", "\\\\", "\\x41", "\\x7f", "\\x00", "\\q", "\\x4", " ", "-w1", "w2w3"]
 ODD_LINES = ["fly", "", "  ", "# x", " # x", "mkdir", "pwd x", '"pwd"', '"ls" "/', "@ pwd", "@bob", "ls /a b c", "index\r",
              "sumount", "tick 65537", "put /a 00"]
 ODD_BITS = [" ", ")", "(", "*", "AND", "NOT", "{", "\\", "-", ""]
@@ -79,14 +79,33 @@ class Drawer:
         if depth > 3 or drawn < 0.4:
             return self.chance.choice(WORDS) + self.chance.choice(["", "", "*"])
         if drawn < 0.55:
-            path = self.path_to("ds" if self.often(0.9) else "dsm")
-            return "{/" + path.lstrip("/").replace("\\", "\\\\").replace("}", "\\}") + "}"
+            return self.directory_term(self.path_to("ds" if self.often(0.9) else "dsm"))
         part = self.part_of_query(depth + 1)
         if drawn < 0.65:
             return "NOT " + part
         if drawn < 0.75:
             return "(" + part + ")"
         return part + self.chance.choice([" AND ", " OR ", "  OR "]) + self.part_of_query(depth + 1)
+
+    def directory_term(self, path):
+        return "{/" + path.lstrip("/").replace("\\", "\\\\").replace("}", "\\}") + "}"
+
+    # What is near to a refusal.
+
+    def nested(self):
+        """Directories with a directory in them."""
+        return [(self.shell.entries[number].parent, number) for number in self.shell.numbers("ds")
+                if self.shell.entries[number].parent]
+
+    def named(self):
+        """Directories on which semantic ones depend, other than by their place, and in which nothing stands."""
+        named = {number for semantic in self.shell.numbers("s") for number in self.shell.edges(semantic)[1:]}
+        return sorted(number for number in named if not self.shell.children(number))
+
+    def leaning(self):
+        """Semantic directories with others on which they depend."""
+        semantic = self.shell.numbers("s")
+        return [(number, other) for number in semantic for other in self.shell.edges(number) if other in semantic]
 
     def documents(self):
         """The documents of a space."""
@@ -105,6 +124,11 @@ class Drawer:
 
     def behind(self, command):
         """What stands behind a command."""
+        if command == "setq" and self.often(0.3) and self.nested():
+            outer, inner = self.chance.choice(self.nested())
+            return f" {self.spelled(self.path_of(outer))} {self.directory_term(self.path_of(inner))}"
+        if command == "rmdir" and self.often(0.4) and self.named():
+            return " " + self.spelled(self.path_of(self.chance.choice(self.named())))
         if command in ("sln", "srm", "sforget"):
             return " " + " ".join(map(self.spelled, self.marked(command)))
         if command == "tick":
@@ -132,6 +156,9 @@ class Drawer:
     def marked(self, command):
         """The two paths of a command on marks, mostly of an item and a directory where it can be carried out."""
         semantic = self.shell.numbers("s")
+        leaning = self.leaning()
+        if command == "sln" and leaning and self.often(0.15):
+            return tuple(map(self.path_of, self.chance.choice(leaning)))
         if command != "sln" and semantic and self.often(0.7):
             directory = self.shell.entries[self.chance.choice(semantic)]
             others = directory.prohibited if command == "sforget" else self.shell.provided()[1][directory.number]
@@ -153,7 +180,10 @@ class Drawer:
         yield self.chance.choice(["index", "counts"])
 
     def listings(self):
-        """Lines that list what semantic directories have."""
+        """Lines that print what there is."""
         for number in self.shell.numbers("s"):
             yield "sls " + self.spelled(self.path_of(number))
+            yield "query " + self.spelled(self.path_of(number))
+        for number in self.shell.numbers("f"):
+            yield "cat " + self.spelled(self.path_of(number))
         yield "counts"
