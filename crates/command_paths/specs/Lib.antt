@@ -1,2 +1,3 @@
+pub mod Resolver
 pub mod Traces
 pub mod Walked

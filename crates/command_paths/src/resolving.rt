@@ -1,50 +1,152 @@
 //! Places, entries and directories to which path words lead, and refusals where they lead to none.
-ghost use Rattle.std.specs.Prelude.{◌≡◌, IsTrue, Some};
+ghost use Rattle.std.specs.Prelude.{◌≡◌, Some};
 ghost use Rattle.hac_model.specs.Run.Answers.{Answers, Refuses};
 ghost use Rattle.hac_model.specs.Run.Resolving.{place, entry, directory, directory_or_root};
 ghost use Rattle.hac_model.specs.Run.Resolving.{holder, listed_directory, mount_of};
 ghost use Rattle.hac_model.specs.Run.Resolving.{numbered_query, outside_mounts, own_entry, slot};
-ghost use Rattle.hac_model.specs.Tree.{is_directory_at, path_of};
+ghost use Rattle.hac_model.specs.Tree.{path_of};
 
 use crate::placing::{self, Stop, named};
 use file_tree::Tree;
 use hac_model::{Deny, Node, Number, PathWord, Place, Query, RawQuery, Refusal};
 use std::alloc::Global;
+use std::marker::Model;
 
-/// Where a path word leads from a directory. A symbolic link as its last name is followed or not.
-pub fn place(
-    alloc: Global,
-    tree: &Tree,
-    base: Number,
-    word: &PathWord,
-    follow: bool,
-) -> Result<Place, Deny>
-    requires { IsTrue (is_directory_at tree.now.state.entries base) }
-    ensures { Answers result (place tree.now.state base follow word.now) }
-{
-    match placing::place(alloc, tree, base, word, follow) {
-        Ok(place) => Ok(place),
-        Err(Stop::Missing(path)) => Err(Deny::Refused(Refusal::NoPath(path))),
-        Err(Stop::NotDir(path)) => Err(Deny::Refused(Refusal::NotDir(path))),
-        Err(Stop::Loop(path)) => Err(Deny::Refused(Refusal::Loop(path))),
-        Err(Stop::Memory) => Err(Deny::Memory),
-    }
+/// Follows path words through a tree, from the directory in which they begin.
+#[derive(Drop)]
+pub(crate) struct Resolver<'a> {
+    pub(crate) alloc: Global,
+    pub(crate) tree: &'a Tree,
+    pub(crate) base: Number,
 }
 
-/// Where a path word leads from a directory, so that something can be put there: not into a mount.
-pub fn slot(
-    alloc: Global,
-    tree: &Tree,
-    base: Number,
-    word: &PathWord,
-    follow: bool,
-) -> Result<Place, Deny>
-    requires { IsTrue (is_directory_at tree.now.state.entries base) }
-    ensures { Answers result (slot tree.now.state base follow word.now) }
-{
-    match place(alloc, tree, base, word, follow) {
-        Ok(found) => outside_mounts(tree, found),
-        Err(deny) => Err(deny),
+impl<'a> Model for Resolver<'a> {
+    ghost use Rattle.command_paths.specs.Resolver.{Standing, standing_code};
+
+    ghost Value = { Standing };
+
+    ghost coded = { standing_code };
+
+    ghost use Rattle.command_paths.specs.Resolver.{standing_of, StandsInDirectory};
+
+    ghost view = { standing_of };
+
+    ghost invariant = { StandsInDirectory };
+}
+
+impl<'a> Resolver<'a> {
+    /// Where a path word leads. A symbolic link as its last name is followed or not.
+    pub(crate) fn place(&self, word: &PathWord, follow: bool) -> Result<Place, Deny>
+        ensures { Answers result (place self.now.state self.now.base follow word.now) }
+    {
+        match placing::place(self.alloc, self.tree, self.base, word, follow) {
+            Ok(place) => Ok(place),
+            Err(Stop::Missing(path)) => Err(Deny::Refused(Refusal::NoPath(path))),
+            Err(Stop::NotDir(path)) => Err(Deny::Refused(Refusal::NotDir(path))),
+            Err(Stop::Loop(path)) => Err(Deny::Refused(Refusal::Loop(path))),
+            Err(Stop::Memory) => Err(Deny::Memory),
+        }
+    }
+
+    /// Where a path word leads, so that something can be put there: not into a mount.
+    pub(crate) fn slot(&self, word: &PathWord, follow: bool) -> Result<Place, Deny>
+        ensures { Answers result (slot self.now.state self.now.base follow word.now) }
+    {
+        match self.place(word, follow) {
+            Ok(found) => outside_mounts(self.tree, found),
+            Err(deny) => Err(deny),
+        }
+    }
+
+    /// The entry to which a path word leads, or the root. A symbolic link as its last name is followed
+    /// or not.
+    pub(crate) fn entry(&self, word: &PathWord, follow: bool) -> Result<Number, Deny>
+        ensures { Answers result (entry self.now.state self.now.base follow word.now) }
+    {
+        match self.place(word, follow)? {
+            Place::There(number) => Ok(number),
+            Place::Free { dir, name } => Err(Deny::Refused(Refusal::NoPath(named(
+                self.tree, dir, name,
+            )?))),
+        }
+    }
+
+    /// The entry to which a path word leads, or the root, which isn't a document.
+    pub(crate) fn own_entry(&self, word: &PathWord, follow: bool) -> Result<Number, Deny>
+        ensures { Answers result (own_entry self.now.state self.now.base follow word.now) }
+    {
+        let number = self.entry(word, follow)?;
+        if self.tree.is_document(number) {
+            return Err(in_mount(self.tree, self.tree.parent(number)));
+        }
+        Ok(number)
+    }
+
+    /// The directory to which a path word leads.
+    pub(crate) fn directory(&self, word: &PathWord) -> Result<Number, Deny>
+        ensures { Answers result (directory self.now.state self.now.base word.now) }
+    {
+        let number = self.entry(word, true)?;
+        if self.tree.is_directory(number) {
+            Ok(number)
+        } else {
+            Err(Deny::Refused(Refusal::NotDir(self.tree.path_of(number)?)))
+        }
+    }
+
+    /// The directory to which a path word leads, which isn't a mount.
+    pub(crate) fn holder(&self, word: &PathWord) -> Result<Number, Deny>
+        ensures { Answers result (holder self.now.state self.now.base word.now) }
+    {
+        let dir = self.directory(word)?;
+        if self.tree.is_mount(dir) {
+            return Err(in_mount(self.tree, dir));
+        }
+        Ok(dir)
+    }
+
+    /// The directory to which a path word leads, the one from which it would lead on if none is given.
+    pub(crate) fn listed_directory(&self, word: &Option<PathWord>) -> Result<Number, Deny>
+        ensures { Answers result (listed_directory self.now.state self.now.base word.now) }
+    {
+        match word {
+            Some(word) => self.directory(word),
+            None => Ok(self.base),
+        }
+    }
+
+    /// The directory to which a path word leads, the root if none is given.
+    pub(crate) fn directory_or_root(&self, word: &Option<PathWord>) -> Result<Number, Deny>
+        ensures { Answers result (directory_or_root self.now.state self.now.base word.now) }
+    {
+        match word {
+            Some(word) => self.directory(word),
+            None => Ok(Number::ROOT),
+        }
+    }
+
+    /// The query with each directory by its number. It goes down as deep as the query does.
+    pub(crate) fn numbered_query(&self, query: RawQuery) -> Result<Query<Number>, Deny>
+        ensures { Answers result (numbered_query self.now.state self.now.base query) }
+    {
+        match query.node {
+            Node::Term(term) => Ok(Query::term(term)),
+            Node::Dir(word) => Ok(Query::dir(self.directory(&word)?)),
+            Node::Not(query) => {
+                let inner = self.numbered_query(Box::into_inner(query))?;
+                Ok(Query::negation(self.alloc, inner)?)
+            }
+            Node::And(left, right) => {
+                let first = self.numbered_query(Box::into_inner(left))?;
+                let second = self.numbered_query(Box::into_inner(right))?;
+                Ok(Query::both(self.alloc, first, second)?)
+            }
+            Node::Or(left, right) => {
+                let first = self.numbered_query(Box::into_inner(left))?;
+                let second = self.numbered_query(Box::into_inner(right))?;
+                Ok(Query::either(self.alloc, first, second)?)
+            }
+        }
     }
 }
 
@@ -94,124 +196,3 @@ fn in_mount(tree: &Tree, mount: Number) -> Deny
 }
 
 /// The entry to which a path word leads, or the root. A symbolic link as its last name is followed
-/// or not.
-pub fn entry(
-    alloc: Global,
-    tree: &Tree,
-    base: Number,
-    word: &PathWord,
-    follow: bool,
-) -> Result<Number, Deny>
-    requires { IsTrue (is_directory_at tree.now.state.entries base) }
-    ensures { Answers result (entry tree.now.state base follow word.now) }
-{
-    match place(alloc, tree, base, word, follow)? {
-        Place::There(number) => Ok(number),
-        Place::Free { dir, name } => Err(Deny::Refused(Refusal::NoPath(named(tree, dir, name)?))),
-    }
-}
-
-/// The entry to which a path word leads, or the root, which isn't a document.
-pub fn own_entry(
-    alloc: Global,
-    tree: &Tree,
-    base: Number,
-    word: &PathWord,
-    follow: bool,
-) -> Result<Number, Deny>
-    requires { IsTrue (is_directory_at tree.now.state.entries base) }
-    ensures { Answers result (own_entry tree.now.state base follow word.now) }
-{
-    let number = entry(alloc, tree, base, word, follow)?;
-    if tree.is_document(number) {
-        return Err(in_mount(tree, tree.parent(number)));
-    }
-    Ok(number)
-}
-
-/// The directory to which a path word leads.
-pub fn directory(alloc: Global, tree: &Tree, base: Number, word: &PathWord) -> Result<Number, Deny>
-    requires { IsTrue (is_directory_at tree.now.state.entries base) }
-    ensures { Answers result (directory tree.now.state base word.now) }
-{
-    let number = entry(alloc, tree, base, word, true)?;
-    if tree.is_directory(number) {
-        Ok(number)
-    } else {
-        Err(Deny::Refused(Refusal::NotDir(tree.path_of(number)?)))
-    }
-}
-
-/// The directory to which a path word leads, which isn't a mount.
-pub fn holder(alloc: Global, tree: &Tree, base: Number, word: &PathWord) -> Result<Number, Deny>
-    requires { IsTrue (is_directory_at tree.now.state.entries base) }
-    ensures { Answers result (holder tree.now.state base word.now) }
-{
-    let dir = directory(alloc, tree, base, word)?;
-    if tree.is_mount(dir) {
-        return Err(in_mount(tree, dir));
-    }
-    Ok(dir)
-}
-
-/// The directory to which a path word leads, the one that it would go on from if none is given.
-pub fn listed_directory(
-    alloc: Global,
-    tree: &Tree,
-    base: Number,
-    word: &Option<PathWord>,
-) -> Result<Number, Deny>
-    requires { IsTrue (is_directory_at tree.now.state.entries base) }
-    ensures { Answers result (listed_directory tree.now.state base word.now) }
-{
-    match word {
-        Some(word) => directory(alloc, tree, base, word),
-        None => Ok(base),
-    }
-}
-
-/// The directory to which a path word leads, the root if none is given.
-pub fn directory_or_root(
-    alloc: Global,
-    tree: &Tree,
-    base: Number,
-    word: &Option<PathWord>,
-) -> Result<Number, Deny>
-    requires { IsTrue (is_directory_at tree.now.state.entries base) }
-    ensures { Answers result (directory_or_root tree.now.state base word.now) }
-{
-    match word {
-        Some(word) => directory(alloc, tree, base, word),
-        None => Ok(Number::ROOT),
-    }
-}
-
-/// The query with each directory by its number. It goes down as deep as the query does.
-pub fn numbered_query(
-    alloc: Global,
-    tree: &Tree,
-    base: Number,
-    query: RawQuery,
-) -> Result<Query<Number>, Deny>
-    requires { IsTrue (is_directory_at tree.now.state.entries base) }
-    ensures { Answers result (numbered_query tree.now.state base query) }
-{
-    match query.node {
-        Node::Term(term) => Ok(Query::term(term)),
-        Node::Dir(word) => Ok(Query::dir(directory(alloc, tree, base, &word)?)),
-        Node::Not(query) => {
-            let inner = numbered_query(alloc, tree, base, Box::into_inner(query))?;
-            Ok(Query::negation(alloc, inner)?)
-        }
-        Node::And(left, right) => {
-            let first = numbered_query(alloc, tree, base, Box::into_inner(left))?;
-            let second = numbered_query(alloc, tree, base, Box::into_inner(right))?;
-            Ok(Query::both(alloc, first, second)?)
-        }
-        Node::Or(left, right) => {
-            let first = numbered_query(alloc, tree, base, Box::into_inner(left))?;
-            let second = numbered_query(alloc, tree, base, Box::into_inner(right))?;
-            Ok(Query::either(alloc, first, second)?)
-        }
-    }
-}

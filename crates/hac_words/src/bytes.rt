@@ -18,8 +18,10 @@ fn is_lower_word_byte(b: u8) -> bool
     is_word_byte(b) && !b.is_ascii_uppercase()
 }
 
+/// Whether a byte is one of those that words are made of: a letter or a digit of ASCII, or a byte
+/// above. All others separate words.
 #[tactic(auto, unfolding(hac_model::specs::Query::Words::is_word_byte))]
-pub(crate) fn is_word_byte(b: u8) -> bool
+pub fn is_word_byte(b: u8) -> bool
     ensures { result ≡ is_word_byte b }
 {
     b.is_ascii_alphanumeric() || b >= 128

@@ -10,7 +10,6 @@ mod searching;
 mod standing;
 mod windows;
 
-pub use bytes::is_word;
-pub use listing::{runs_of, words_of};
-pub use runs::Run;
+pub use bytes::{is_word, is_word_byte};
+pub use listing::words_of;
 pub use searching::has_term;

@@ -1,5 +1,4 @@
-//! The words of a text: its distinct ones in order, and those of a text in lower case as they
-//! stand.
+//! The words of a text, each once and in order.
 ghost use Rattle.std.specs.Prelude.{◌≡◌, IfOk};
 ghost use Rattle.hac_model.specs.Query.Words.{lower_case, rising_words, runs};
 
@@ -22,7 +21,7 @@ pub fn words_of(alloc: Global, text: &[u8]) -> Result<Words, Memory>
 
 /// The longest runs of word bytes, in the order of the text and as often as it has them. Those of a
 /// text in lower case are its words. They borrow the text, so none takes memory of its own.
-pub fn runs_of(alloc: Global, text: &[u8]) -> Result<Vec<Run<'_>>, AllocError>
+fn runs_of(alloc: Global, text: &[u8]) -> Result<Vec<Run<'_>>, AllocError>
     ensures { IfOk result (λ found. found.items ≡ runs text.now) }
 {
     text.split(|b| !is_word_byte(*b))

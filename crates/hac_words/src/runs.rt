@@ -12,7 +12,7 @@ use std::marker::Model;
 
 /// A run of bytes of a text, seen as these.
 #[derive(Drop)]
-pub struct Run<'t> {
+pub(crate) struct Run<'t> {
     front: u64,
     bytes: &'t [u8],
 }
@@ -40,7 +40,7 @@ impl<'t> Run<'t> {
     }
 
     /// Its bytes.
-    pub fn as_bytes(&self) -> &[u8]
+    pub(crate) fn as_bytes(&self) -> &[u8]
         ensures { result.now ≡ self.now }
     {
         self.bytes

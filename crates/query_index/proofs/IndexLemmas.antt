@@ -1,8 +1,7 @@
 -- An index of queries: what words meet in it, what it answers, and what one query more adds.
-use Rattle.std.proofs.Common.{◌≡◌, ℕ, zero, suc, ◌+◌, ◌<◌, Bool, true, false, List, [], ◌∷◌, None, Some, length, map, take, refl, ap, sym, ◌∙◌, arith}
+use Rattle.std.proofs.Common.{◌≡◌, ℕ, zero, suc, ◌+◌, ◌<◌, Bool, true, false, List, [], ◌∷◌, None, Some, length, take, refl, ap, sym, ◌∙◌, arith}
 use Rattle.std.specs.Prelude.{◌==◌, ◌&&◌, ◌||◌, ◌++◌, filter, not, nat_eq, IfSome, Option, is_some, option_and_then, slice_get}
 use Rattle.std.specs.List.{list_any, starts_with}
-use Rattle.std.specs.Map.{lookup}
 use Rattle.std.specs.Option.{option_map, option_map_or}
 use Rattle.std.proofs.lemmas.Bool.{eq-eqb, ne_eqb}
 use Rattle.std.proofs.lemmas.List.{length-append}
@@ -22,7 +21,7 @@ use Rattle.query_index.specs.declared.met.Met.{Met}
 use Rattle.query_index.proofs.AskLemmas.{begins, some-asked}
 use Rattle.query_index.proofs.ListLemmas.{and-false, and-true, any-either, any-filter, any-met, any-none, below-at, below-none, below-some, or-assoc, or-false, same-back}
 use Rattle.query_index.proofs.NumberLemmas.{adds-alike, adds-both, adds-none, eqb-suc}
-use Rattle.query_index.proofs.PostingLemmas.{Letters, is_for, items_of, one-there, places-seen, stands-as, stands-there}
+use Rattle.query_index.proofs.PostingLemmas.{one-there, stands-as, stands-there}
 
 abbrev Queries : Type 0
 Queries = List (Option (Formula ℕ))
@@ -30,17 +29,6 @@ Queries = List (Option (Formula ℕ))
 -- the query at a place, if there is one
 abbrev query_at : Queries → ℕ → Option (Formula ℕ)
 query_at queries place = option_and_then (λ query. query) (slice_get queries place)
-
--- ---- what callers see
-
-pub adds-seen : (before after : List (Letters × Letters)) (test : List ℕ → Bool) (place : ℕ) →
-    ((letters : List ℕ) (other : ℕ) → has (items_of (lookup (is_for letters) after)) other ≡ (has (items_of (lookup (is_for letters) before)) other || (test letters && place == other))) →
-    (letters : List ℕ) (other : ℕ) →
-    has (places_of (map (λ entry. (entry.0.items, entry.1.items)) after) letters) other ≡ (has (places_of (map (λ entry. (entry.0.items, entry.1.items)) before) letters) other || (test letters && place == other))
-adds-seen before after test place adds letters other =
-    ap (λ (places : List ℕ). has places other) (places-seen after letters)
-    ∙ adds letters other
-    ∙ ap (λ (places : List ℕ). has places other || (test letters && place == other)) (sym (places-seen before letters))
 
 -- ---- what words meet
 

@@ -1,3 +1,4 @@
+mod SieveLemmas
 pub mod AskLemmas
 pub mod IndexLemmas
 pub mod LawLemmas

@@ -12,8 +12,9 @@ use Rattle.std.proofs.lemmas.List.Quantifiers.{position-Some}
 use Rattle.std.proofs.lemmas.Slice.Eq.{bytes_eq-Decides}
 use Rattle.indexmap.specs.IndexMap.{insert_entry}
 use Rattle.hac_model.specs.Tree.Links.{has}
-use Rattle.query_index.specs.Inner.{begins_at, is_at, places_in}
+use Rattle.query_index.specs.Inner.{AddsPlace, begins_at, is_at, places_in}
 use Rattle.query_index.specs.Seen.{place_of, places_of}
+use Rattle.query_index.specs.Sieve.{passes}
 use Rattle.query_index.proofs.ListLemmas.{agree, below-none, or-false}
 
 abbrev pub Letters : Type 0
@@ -150,7 +151,7 @@ position-cons p x xs = of (p x)
         ∙ ap (λ (b : Bool). cond b (Some (suc (position_or_len p xs))) None) (ltb-suc (position_or_len p xs) (length xs))
         ∙ next-place (nat_lt (position_or_len p xs) (length xs)) (position_or_len p xs)
 
-abbrev Seen_postings : Type 0
+abbrev pub Seen_postings : Type 0
 Seen_postings = List (List ℕ × List ℕ)
 
 place-cons : (entry : List ℕ × List ℕ) (entries : Seen_postings) (letters : List ℕ) → place_of (entry ∷ entries) letters ≡ cond (bytes_eq letters entry.0) (Some 0) (option_map suc (place_of entries letters))
@@ -207,6 +208,18 @@ none-begin entries word at none =
     sym (below-none (suc (length word)))
     ∙ ap (λ (es : List (Letters × Letters)). begins_at (map (λ entry. (entry.0.items, entry.1.items)) es) word at) (sym none)
 
+-- letters that aren't there stand nowhere
+pub nowhere : (entries : List (Letters × Letters)) (letters : List ℕ) → is_some (lookup (is_for letters) entries) ≡ false → place_of (map (λ entry. (entry.0.items, entry.1.items)) entries) letters ≡ None
+nowhere [] letters none = refl
+nowhere (e ∷ es) letters none =
+    place-cons (e.0.items, e.1.items) (map (λ entry. (entry.0.items, entry.1.items)) es) letters
+    ∙ of (is_for letters e.0) (nowhere es letters) none
+  where
+    of : (b : Bool) → (is_some (lookup (is_for letters) es) ≡ false → place_of (map (λ entry. (entry.0.items, entry.1.items)) es) letters ≡ None) → is_some (cond b (Some e.1) (lookup (is_for letters) es)) ≡ false →
+        cond b (Some 0) (option_map suc (place_of (map (λ entry. (entry.0.items, entry.1.items)) es) letters)) ≡ None
+    of true rest none = absurd (false≢true (sym none))
+    of false rest none = ap (option_map suc) (rest none)
+
 -- letters that were looked up, one or none
 pub none-met : (o : Option ℕ) → o ≡ None → (n : ℕ) → false ≡ option_map_or (λ found. found == n) o false
 none-met o is n = ap (λ (o : Option ℕ). option_map_or (λ found. found == n) o false) (sym is)
@@ -219,3 +232,92 @@ pub kept-seen : (entries : List (Letters × Letters)) (at : ℕ) → option_map_
 kept-seen [] at = refl
 kept-seen (e ∷ es) zero = refl
 kept-seen (e ∷ es) (suc at) = kept-seen es at
+
+-- ---- letters that pass a sieve
+
+-- letters that don't pass aren't there
+pub unpassed : (there passes : Bool) → (there ≡ true → passes ≡ true) → passes ≡ false → there ≡ false
+unpassed true passes all none = absurd (false≢true (sym none ∙ all refl))
+unpassed false passes all none = refl
+
+-- letters that don't pass stand nowhere
+pub unpassed-nowhere : (entries : List (Letters × Letters)) (marks : List Bool) (letters : List ℕ) → ((others : List ℕ) → is_some (lookup (is_for others) entries) ≡ true → passes marks others ≡ true) → passes marks letters ≡ false →
+    place_of (map (λ entry. (entry.0.items, entry.1.items)) entries) letters ≡ None
+unpassed-nowhere entries marks letters all none = nowhere entries letters (unpassed (is_some (lookup (is_for letters) entries)) (passes marks letters) (all letters) none)
+
+-- all letters pass where some pass besides those that did, and only these are new
+pub pass-more : (old new : List Bool) (before after : List (Letters × Letters)) (letters : List ℕ) → ((others : List ℕ) → is_some (lookup (is_for others) before) ≡ true → passes old others ≡ true) →
+    ((others : List ℕ) → passes old others ≡ true → passes new others ≡ true) → passes new letters ≡ true →
+    ((others : List ℕ) → is_some (lookup (is_for others) after) ≡ true → (is_some (lookup (is_for others) before) || bytes_eq others letters) ≡ true) →
+    (others : List ℕ) → is_some (lookup (is_for others) after) ≡ true → passes new others ≡ true
+pass-more old new before after letters all still own more others there =
+    of (is_some (lookup (is_for others) before)) refl (bytes_eq others letters) refl (more others there)
+  where
+    of : (b : Bool) → is_some (lookup (is_for others) before) ≡ b → (c : Bool) → bytes_eq others letters ≡ c → (b || c) ≡ true → passes new others ≡ true
+    of true was c is either = still others (all others was)
+    of false was true is either = ap (passes new) (same others letters is) ∙ own
+    of false was false is either = absurd (false≢true either)
+
+-- letters that were there
+pub old-letters : (b c : Bool) → b ≡ true → (b || c) ≡ true
+old-letters true c is = refl
+old-letters false c is = absurd (false≢true is)
+
+-- only the letters that are put in are new
+pub new-letters : (letters others : List ℕ) (es : List (Letters × Letters)) (k v : Letters) → k.items ≡ letters → is_some (lookup (is_for others) (insert_entry same_key es k v)) ≡ true → (is_some (lookup (is_for others) es) || bytes_eq others letters) ≡ true
+new-letters letters others es k v key there = of (bytes_eq others k.items) refl (sym (ap is_some (inserted others es k v)) ∙ there)
+  where
+    right : (b : Bool) → (b || true) ≡ true
+    right true = refl
+    right false = refl
+
+    of : (b : Bool) → bytes_eq others k.items ≡ b → is_some (cond b (Some v) (lookup (is_for others) es)) ≡ true → (is_some (lookup (is_for others) es) || bytes_eq others letters) ≡ true
+    of true is there =
+        ap (λ (c : Bool). is_some (lookup (is_for others) es) || c) (ap (bytes_eq others) (sym key) ∙ is)
+        ∙ right (is_some (lookup (is_for others) es))
+    of false is there = old-letters (is_some (lookup (is_for others) es)) (bytes_eq others letters) there
+
+-- no letters come or go where places are written
+pub same-letters : (letters others : List ℕ) (es : List (Letters × Letters)) (w : Letters) → is_some (lookup (is_for others) (set_value (is_for letters) es w)) ≡ is_some (lookup (is_for others) es)
+same-letters letters others [] w = refl
+same-letters letters others (e ∷ es) w = of (is_for letters e.0) (same-letters letters others es w)
+  where
+    here : (c : Bool) → is_some (cond c (Some w) (lookup (is_for others) es)) ≡ is_some (cond c (Some e.1) (lookup (is_for others) es))
+    here true = refl
+    here false = refl
+
+    there : (c : Bool) → is_some (lookup (is_for others) (set_value (is_for letters) es w)) ≡ is_some (lookup (is_for others) es) →
+        is_some (cond c (Some e.1) (lookup (is_for others) (set_value (is_for letters) es w))) ≡ is_some (cond c (Some e.1) (lookup (is_for others) es))
+    there true rest = refl
+    there false rest = rest
+
+    of : (b : Bool) → is_some (lookup (is_for others) (set_value (is_for letters) es w)) ≡ is_some (lookup (is_for others) es) →
+        is_some (lookup (is_for others) (cond b ((e.0, w) ∷ es) (e ∷ set_value (is_for letters) es w))) ≡ is_some (lookup (is_for others) (e ∷ es))
+    of true rest = here (is_for others e.0)
+    of false rest = there (is_for others e.0) rest
+
+-- a place that is put behind those of letters is added, as callers see it
+pub puts-seen : (before mid after : List (Letters × Letters)) (letters : List ℕ) (place : ℕ) → ((others : List ℕ) → items_of (lookup (is_for others) mid) ≡ items_of (lookup (is_for others) before)) →
+    ((others : List ℕ) → items_of (lookup (is_for others) after) ≡ (if bytes_eq others letters then items_of (lookup (is_for others) mid) ++ place ∷ [] else items_of (lookup (is_for others) mid))) →
+    AddsPlace (map (λ entry. (entry.0.items, entry.1.items)) before) (map (λ entry. (entry.0.items, entry.1.items)) after) (λ others. bytes_eq others letters) place
+puts-seen before mid after letters place room puts others other =
+    ap (λ (places : List ℕ). has places other) (places-seen after others ∙ puts others)
+    ∙ ap (λ (places : List ℕ). has (if bytes_eq others letters then places ++ place ∷ [] else places) other) (room others)
+    ∙ added (bytes_eq others letters) (items_of (lookup (is_for others) before)) place other
+    ∙ ap (λ (places : List ℕ). has places other || (bytes_eq others letters && place == other)) (sym (places-seen before others))
+
+-- both tests, one behind the other
+pub adds-two : (before mid after : Seen_postings) (p q r : List ℕ → Bool) (place : ℕ) → AddsPlace before mid p place → AddsPlace mid after q place → ((letters : List ℕ) → r letters ≡ (p letters || q letters)) → AddsPlace before after r place
+adds-two before mid after p q r place first second either letters other =
+    second letters other
+    ∙ ap (λ (b : Bool). b || (q letters && place == other)) (first letters other)
+    ∙ spread (has (places_of before letters) other) (p letters) (q letters) (place == other)
+    ∙ ap (λ (b : Bool). has (places_of before letters) other || (b && place == other)) (sym (either letters))
+  where
+    spread : (a b c e : Bool) → ((a || (b && e)) || (c && e)) ≡ (a || ((b || c) && e))
+    spread true b c e = refl
+    spread false true true true = refl
+    spread false true true false = refl
+    spread false true false true = refl
+    spread false true false false = refl
+    spread false false c e = refl

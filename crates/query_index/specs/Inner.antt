@@ -1,5 +1,5 @@
 -- How an index keeps the places of the queries that ask for letters, and what words meet in it.
-use Rattle.std.specs.Prelude.{◌≡◌, ℕ, suc, Bool, false, ◌==◌, ◌&&◌, ◌||◌, List, [], length, take, map, Vec, is_some, slice_get}
+use Rattle.std.specs.Prelude.{◌≡◌, ℕ, suc, Bool, false, ◌==◌, ◌&&◌, ◌||◌, List, [], length, take, map, Vec, IsTrue, is_some, slice_get}
 use Rattle.std.specs.List.{list_any}
 use Rattle.std.specs.Option.{option_map_or}
 use Rattle.std.specs.Str.{bytes_eq}
@@ -12,10 +12,12 @@ use Rattle.hac_model.specs.Tree.Links.{has}
 use Rattle.hac_model.specs.Tree.Valid.{RiseFrom}
 use Rattle.hac_model.specs.declared.terms.Term.TheVariants.{Word, Prefix}
 use Rattle.query_index.specs.Numbers.{AddsAll, AreThose, any_below}
-use Rattle.query_index.specs.Seen.{Fitting, Seen, place_of}
+use Rattle.query_index.specs.Seen.{Fitting, Seen, place_of, places_of}
+use Rattle.query_index.specs.Sieve.{passes}
 use Rattle.query_index.specs.declared.fit.Fit.TheInside as fit
 use Rattle.query_index.specs.declared.index.QueryIndex.TheInside as index
 use Rattle.query_index.specs.declared.met.Met.{Met}
+use Rattle.query_index.specs.declared.postings.Postings.TheInside as postings
 
 module _ {S : Type 0} where
   -- the letters are there, though they may have no places yet
@@ -26,14 +28,18 @@ module _ {S : Type 0} where
   abbrev pub kept_at : IndexMap (Vec ℕ Global) (Vec ℕ Global) S → List ℕ → List ℕ
   kept_at postings letters = option_map_or (λ places. places.items) (get_by (λ key. bytes_eq letters key.items) postings) []
 
-  -- the place is added to those of all letters that pass the test
-  abbrev pub AddsPlace : IndexMap (Vec ℕ Global) (Vec ℕ Global) S → IndexMap (Vec ℕ Global) (Vec ℕ Global) S → (List ℕ → Bool) → ℕ → Type 0
-  AddsPlace old new test place =
-      (letters : List ℕ) (other : ℕ) → has (kept_at new letters) other ≡ (has (kept_at old letters) other || (test letters && place == other))
-
   -- letters with their places, as callers see them
   abbrev pub seen_postings : IndexMap (Vec ℕ Global) (Vec ℕ Global) S → List (List ℕ × List ℕ)
   seen_postings postings = map (λ entry. (entry.0.items, entry.1.items)) postings.entries
+
+-- no letters are there that don't pass the sieve
+abbrev pub AllPass : postings.Inside → Type 0
+AllPass postings = (letters : List ℕ) → IsTrue (has_letters postings.places letters) → IsTrue (passes postings.sieve letters)
+
+-- the place is added to those of all letters that pass the test
+abbrev pub AddsPlace : List (List ℕ × List ℕ) → List (List ℕ × List ℕ) → (List ℕ → Bool) → ℕ → Type 0
+AddsPlace old new test place =
+    (letters : List ℕ) (other : ℕ) → has (places_of new letters) other ≡ (has (places_of old letters) other || (test letters && place == other))
 
 -- the query asks for the word of these letters
 abbrev pub has_word : List ℕ → Formula ℕ → Bool
@@ -73,8 +79,8 @@ pub record AreMet (index : Seen) (these : List (List ℕ)) (met : Met) : Type 0 
 abbrev pub seen_of : index.Inside → Seen
 seen_of index = record {
   count = index.count;
-  words = seen_postings index.words;
-  beginnings = seen_postings index.beginnings;
+  words = index.words;
+  beginnings = index.beginnings;
   wordless = index.wordless.items;
 }
 

@@ -3,3 +3,4 @@ pub mod Inner
 pub mod Laws
 pub mod Numbers
 pub mod Seen
+pub mod Sieve

@@ -6,6 +6,7 @@ ghost use Rattle.std.specs.List.Sorted.{IsStrictlySortedBy};
 ghost use Rattle.std.specs.Option.{option_copied, option_map};
 ghost use Rattle.std.specs.Ordering.{nat_cmp};
 ghost use Rattle.hac_model.specs.Query.Formula.{Formula};
+ghost use Rattle.hac_model.specs.Query.Words.{has_bytes, runs, words};
 ghost use Rattle.hac_model.specs.Tree.Links.{has};
 ghost use Rattle.hac_model.specs.Tree.Valid.{RiseFrom};
 ghost use Rattle.query_index.specs.Asking.{asks_for_change, is_listed};
@@ -16,11 +17,10 @@ ghost use Rattle.query_index.specs.Seen.{ArePlaces, IsFitOf, IsIndexOf, place_of
 use crate::fit::Fit;
 use crate::met::Met;
 use crate::numbers::put_in_order;
-use crate::postings::{self, Postings};
+use crate::postings::Postings;
 use crate::queries;
 use hac_model::{Memory, Name, Number, Query};
-use hac_words::Run;
-use indexmap::IndexMap;
+use hac_words::is_word_byte;
 use std::alloc::Global;
 use std::marker::Model;
 
@@ -54,8 +54,8 @@ impl QueryIndex {
         QueryIndex {
             alloc,
             count: 0,
-            words: IndexMap::new(alloc),
-            beginnings: IndexMap::new(alloc),
+            words: Postings::new(alloc),
+            beginnings: Postings::new(alloc),
             wordless: Vec::new(alloc),
         }
     }
@@ -101,14 +101,15 @@ impl QueryIndex {
         self.places_of(&met, Vec::new(self.alloc))
     }
 
-    /// Which queries may hold of an item with these words, in any order, and which of their terms
-    /// ask for one of them.
-    pub fn fitting(&self, words: &[Run<'_>]) -> Result<Fit<'_>, Memory>
+    /// Which queries may hold of an item with this text, and which of their terms ask for one of
+    /// its words. While it works it holds a copy of the text.
+    pub fn fitting(&self, text: &[u8]) -> Result<Fit<'_>, Memory>
         ensures { (queries : List (Option (Formula ℕ))) → IsIndexOf queries self.now →
-            IfOk result (IsFitOf queries words.now) }
+            IfOk result (IsFitOf queries (words text.now)) }
     {
+        let lower = text.to_ascii_lowercase(self.alloc)?;
         let mut met = Met::new(self.alloc);
-        self.meet_words(words, &mut met)?;
+        self.meet_runs(&lower, &mut met)?;
         met.put_in_order();
         let wordless = Vec::from_slice(self.alloc, self.wordless.as_slice())?;
         let places = self.places_of(&met, wordless)?;
@@ -124,7 +125,7 @@ impl QueryIndex {
         requires { RiseFrom 0 met.now }
         ensures { result ≡ option_map (has met.now) (place_of self.now.words letters.now) }
     {
-        postings::is_met(&self.words, letters, met)
+        self.words.is_met(letters, met)
     }
 
     /// Whether they were met as the beginning of a word, if a query asks for that.
@@ -132,7 +133,7 @@ impl QueryIndex {
         requires { RiseFrom 0 met.now }
         ensures { result ≡ option_map (has met.now) (place_of self.now.beginnings letters.now) }
     {
-        postings::is_met(&self.beginnings, letters, met)
+        self.beginnings.is_met(letters, met)
     }
 
     /// These places and those of the letters that were met, in order.
@@ -142,8 +143,9 @@ impl QueryIndex {
             || is_under self.now.beginnings met.now.beginnings.items place) all.items) }
     {
         let mut places = places;
-        postings::add_places(&self.words, met.words.as_slice(), &mut places)?;
-        postings::add_places(&self.beginnings, met.beginnings.as_slice(), &mut places)?;
+        self.words.add_places(met.words.as_slice(), &mut places)?;
+        self.beginnings
+            .add_places(met.beginnings.as_slice(), &mut places)?;
         put_in_order(&mut places);
         Ok(places)
     }
@@ -160,14 +162,24 @@ impl QueryIndex {
         Ok(())
     }
 
-    /// Adds what these words meet.
-    fn meet_words(&self, words: &[Run<'_>], met: &mut Met) -> Result<(), Memory>
-        ensures { OnOk result (Meets self.now words.now met.old met.new) }
+    /// Adds what the words meet of a text in lower case.
+    fn meet_runs(&self, text: &[u8], met: &mut Met) -> Result<(), Memory>
+        ensures { OnOk result (Meets self.now (runs text.now) met.old met.new) }
     {
-        for word in words {
-            self.meet(word.as_bytes(), met)?;
+        for run in text.split(|b| !is_word_byte(*b)) {
+            self.meet_run(run, met)?;
         }
         Ok(())
+    }
+
+    /// Adds what a run meets, if it has bytes.
+    fn meet_run(&self, run: &[u8], met: &mut Met) -> Result<(), Memory>
+        ensures { OnOk result (Meets self.now (filter has_bytes (run.now ∷ [])) met.old met.new) }
+    {
+        if run.is_empty() {
+            return Ok(());
+        }
+        self.meet(run, met)
     }
 
     /// Adds what a word meets, if it isn't among the others.
@@ -186,8 +198,8 @@ impl QueryIndex {
     fn meet(&self, word: &[u8], met: &mut Met) -> Result<(), Memory>
         ensures { OnOk result (Meets self.now (word.now ∷ []) met.old met.new) }
     {
-        postings::meet(&self.words, word, &mut met.words)?;
-        postings::meet_beginnings(&self.beginnings, word, &mut met.beginnings)
+        self.words.meet(word, &mut met.words)?;
+        self.beginnings.meet_beginnings(word, &mut met.beginnings)
     }
 }
 

@@ -9,6 +9,7 @@ mod met;
 mod numbers;
 mod postings;
 mod queries;
+mod sieve;
 
 pub use fit::Fit;
 pub use index::QueryIndex;

@@ -7,7 +7,7 @@ ghost use Rattle.query_index.specs.Asking.{can_be};
 ghost use Rattle.query_index.specs.Inner.{AddsPlace, has_beginning, has_word};
 ghost use Rattle.query_index.specs.Numbers.{AddsAll};
 
-use crate::postings::{self, Postings};
+use crate::postings::Postings;
 use hac_model::{Memory, Node, Number, Query, Term};
 use std::alloc::Global;
 
@@ -119,7 +119,7 @@ fn add_term(
         (λ letters. is_same_term (Prefix letters) term.now) place) }
 {
     match term {
-        Term::Word(letters) => postings::add(alloc, words, letters.as_bytes(), place),
-        Term::Prefix(letters) => postings::add(alloc, beginnings, letters.as_bytes(), place),
+        Term::Word(letters) => words.add(alloc, letters.as_bytes(), place),
+        Term::Prefix(letters) => beginnings.add(alloc, letters.as_bytes(), place),
     }
 }
