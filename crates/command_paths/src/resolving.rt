@@ -194,5 +194,3 @@ fn in_mount(tree: &Tree, mount: Number) -> Deny
         Err(_) => Deny::Memory,
     }
 }
-
-/// The entry to which a path word leads, or the root. A symbolic link as its last name is followed

@@ -9,8 +9,8 @@ use Rattle.hac_model.proofs.SessionLemmas.{session-there}
 use Rattle.kept_state.proofs.StateLemmas.{same-directory, same-resolved}
 use Rattle.command_paths.proofs.commands.followed.Goals as goal
 
-pub resolve-requires : goal.resolve-requires
-resolve-requires c =
+pub invariant_of-resolver : goal.invariant_of-resolver
+invariant_of-resolver c =
     let s = c.args.kept.now.state in
     let t = c.tree.result.now.state in
     sym (same-directory s t c.tree.ensures.tree.bares c.stands_in-base.result)

@@ -4,7 +4,7 @@ use Rattle.hac_model.specs.Run.Answers.{Answers}
 use Rattle.hac_model.specs.declared.replies.Refusal.{Refusal}
 use Rattle.hac_model.specs.declared.resolved.Resolved.{Resolved}
 use Rattle.command_paths.proofs.ResolveLemmas.{other-resolved}
-use Rattle.command_paths.proofs.commands.Resolver.resolve.Goals as goal
+use Rattle.command_paths.proofs.resolving.Resolver.resolve.Goals as goal
 
 pub returns-in_default : goal.returns-in_default
 returns-in_default c =
