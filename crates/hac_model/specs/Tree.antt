@@ -107,7 +107,7 @@ is_directory (Semantic query permanent prohibited) = true
 is_directory (Mount space answers) = true
 is_directory other = false
 
--- a directory without a query
+-- a directory that is neither semantic nor a mount
 abbrev pub is_plain : Body → Bool
 is_plain Dir = true
 is_plain other = false
@@ -137,7 +137,7 @@ abbrev pub query_in : Body → Option (Formula ℕ)
 query_in (Semantic query permanent prohibited) = Some query
 query_in other = None
 
--- the items that the user added to a semantic directory
+-- the items and directories that the user added to a semantic directory
 abbrev pub permanent_in : Body → List ℕ
 permanent_in (Semantic query permanent prohibited) = permanent
 permanent_in other = []

@@ -36,14 +36,14 @@ pub enum Refusal {
     NotEmpty(Path),
     /// The entry would move into itself or below itself.
     Under(Path),
-    /// The root can't be removed or moved.
+    /// The root can't be removed or moved, and gets no query.
     Root,
     /// The bytes aren't a query: the least place, counted from 1, such that no query begins with
     /// the bytes up to it.
     BadQuery(u64),
     /// The directory would depend on itself through this one.
     Cycle(Path),
-    /// The query of this directory names the one to be removed.
+    /// The query of this directory names the one to be removed, or that one was added to it.
     Referenced(Path),
     /// This session is in the directory to be removed.
     Busy(Name),

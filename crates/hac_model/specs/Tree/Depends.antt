@@ -54,11 +54,11 @@ unfoldable pub first_reaching : State → ℕ → List ℕ → Option ℕ
 first_reaching s dir [] = None
 first_reaching s dir (other ∷ others) = if reaches s other dir then Some other else first_reaching s dir others
 
--- the directory through which one would depend on itself that stands in a directory and has a query
+-- for a directory with this parent and this query: the first directory through which it would depend on itself
 abbrev pub cycle_over : State → ℕ → ℕ → Formula ℕ → Option ℕ
 cycle_over s dir parent query = first_reaching s dir (parent ∷ named_in query)
 
--- the directories that an entry depends on where it goes to a directory: what isn't semantic depends on nothing
+-- the directory through which an entry would depend on itself once it is in another one: none where it isn't semantic
 abbrev pub cycle_of_move : State → ℕ → ℕ → Option ℕ
 cycle_of_move s entry dir = option_and_then (cycle_over s entry dir) (query_at s entry)
 
