@@ -44,6 +44,9 @@ impl Store {
         ensures place { IfOk result (λ store. Bears (D.seen disk.new) store) }
         ensures quiet { IfSome (D.seen disk.old) (λ file. IsOk (held file) →
             IsQuiet D.seen D.image D.moment D.image_since disk.old disk.new) }
+        // Where memory ran out nothing was written.
+        ensures unwritten { result ≡ Err StoreFault.Memory →
+            IsQuiet D.seen D.image D.moment D.image_since disk.old disk.new }
         // At each moment a crash leaves what it might have left before, or the root alone, or no
         // store.
         ensures any_moment { IfSome (D.seen disk.old) (λ file. IsErr (held file) →
@@ -82,6 +85,7 @@ fn new_store<D: Disk>(alloc: Global, disk: &mut D) -> Result<Store, StoreFault>
     ensures stands { IfSome (D.seen disk.old) (λ _. OnOk result
         (Stands (D.seen disk.new) (D.image disk.new) new_setting)) }
     ensures place { IfOk result (λ store. Bears (D.seen disk.new) store) }
+    ensures unwritten { result ≡ Err StoreFault.Memory → disk.new ≡ disk.old }
     ensures any_moment { IfSome (D.seen disk.old)
         (λ _. LeavesOnly D.moment D.image_since disk.old disk.new IsNewOrNone) }
     ensures kind { ((at : ℕ) → result ≡ Err (StoreFault.NotStore at) → ⊥) ×
