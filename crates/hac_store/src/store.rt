@@ -50,13 +50,6 @@ impl Store {
         &self.machine
     }
 
-    /// A write of this store failed, so what is on the disk isn't known: it is to be loaded again.
-    pub fn broken(&self) -> bool
-        ensures { result ≡ self.now.broken }
-    {
-        self.broken
-    }
-
     /// Whether `records` records with payloads of `payload` bytes each fit in the store.
     pub fn room_for(&self, records: u64, payload: u64) -> bool
         ensures { result ≡ fit_behind self.now.setting.state.version self.now.setting.end records
