@@ -7,7 +7,7 @@ use Rattle.hac_checkpoint.specs.Roots.{root_of, IsRootSeen}
 use Rattle.hac_checkpoint.specs.declared.heads.Root.{Root}
 use Rattle.hac_checkpoint.specs.declared.heads.Stop.{Stop}
 use Rattle.hac_journal.specs.Finding.{Found, Whole, Closed, Short, TellsAt, found_at, found_in}
-use Rattle.hac_journal.specs.declared.finding.Next.TheVariants.{Entry, End, Bad}
+use Rattle.hac_journal.specs.declared.finding.Next.TheVariants.{Entry, End}
 use Rattle.hac_journal.proofs.LawLemmas.{found-is-whole}
 use Rattle.hac_model.specs.Payload.Payloads.{spelled}
 use Rattle.hac_model.specs.Payload.States.{spelled_snapshot}
@@ -138,11 +138,6 @@ pub loads-closed : (seen : Option (List ℕ)) (at : ℕ) (result : Result Begun 
     → IfSome seen (λ file. Loads result at file)
 loads-closed None at result tells is = tt
 loads-closed (Some file) at result tells is = loads-alone Two at file result (ap (loading_found at file) tells) is
-
-pub loads-short : (seen : Option (List ℕ)) (at place : ℕ) (result : Result Begun StoreFault) → TellsAt (Bad place) at seen → IfOk result (λ begun. begun ≡ record { replay = empty; at = at })
-    → IfSome seen (λ file. Loads result at file)
-loads-short None at place result tells is = tt
-loads-short (Some file) at place result tells is = loads-alone Two at file result (ap (loading_found at file) tells.0) is
 
 -- the area of a root is what is read of a store
 load-root : (file : List ℕ) (here : Root) → root_of file ≡ Ok here → loading file ≡ loading_area here.start file
