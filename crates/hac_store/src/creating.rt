@@ -1,12 +1,11 @@
 //! Making a new store: all of it is written behind a closed gate, which is then opened.
-ghost use Rattle.std.specs.Prelude.{◌≡◌, ◌⊎◌, ◌≤◌, ◌+◌, Err, IfOk, IfSome, IsErr, IsOk, OnOk, ℕ};
-ghost use Rattle.hac_outside.specs.Causes.{HasCause, ReportsFault};
+ghost use Rattle.std.specs.Prelude.{◌≡◌, ◌⊎◌, ◌≤◌, ◌+◌, Err, IfSome, IsErr, IsOk, OnOk};
+ghost use Rattle.hac_outside.specs.Causes.{HasCause};
 ghost use Rattle.hac_disk.specs.Images.{IsQuiet, LeavesOnly};
 ghost use Rattle.hac_disk.specs.Contents.{HasByteAt, IsSettled};
 ghost use Rattle.hac_journal.specs.Appending.{ClosedAt};
 ghost use Rattle.hac_model.specs.Run.Play.{new_setting};
 ghost use Rattle.hac_store.specs.Creating.{Becomes, Creates, IsReady, HoldsNone, none_in};
-ghost use Rattle.hac_store.specs.Faults.{is_disk_fault};
 ghost use Rattle.hac_store.specs.Held.{held};
 ghost use Rattle.hac_store.specs.Loading.{loading};
 ghost use Rattle.hac_store.specs.Stores.{Bears, IsNewOrNone, Stands, first_store};
@@ -29,7 +28,7 @@ const NEW: [u8; 65] =
     *b"\0HACSTOR1\x01\x01\0\0\0\0\0\0\0\x40\0\0\0\0\0\0\0\0\0\0\0\0\0\0\0\0\0\0\0\0\0\0\0\0\0\0\0\0\0\0\0\0\0\0\0\0\0\0\0\0\0\0\0\0\0\0";
 
 impl Store {
-    /// Makes a new store on a disk that holds none.
+    /// Makes a new store on a disk that holds none. After `Memory` nothing was written.
     pub fn create<D: Disk, L: Ledger>(
         alloc: Global,
         disk: &mut D,

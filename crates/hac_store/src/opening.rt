@@ -9,11 +9,11 @@ ghost use Rattle.hac_model.specs.Tree.Costs.{opening, weight};
 ghost use Rattle.hac_model.specs.Tree.Sessions.{is_stored};
 ghost use Rattle.hac_model.specs.Tree.Valid.{IsValid};
 ghost use Rattle.hac_store.specs.Faults.{is_disk_fault};
-ghost use Rattle.hac_store.specs.Held.{held, after_payload, log};
+ghost use Rattle.hac_store.specs.Held.{after_payload, log};
 ghost use Rattle.hac_store.specs.Loading.{judging, loading, replaying};
 ghost use Rattle.hac_store.specs.Opening.{Loads};
 ghost use Rattle.hac_store.specs.Reading.{Judges, ReadsLog};
-ghost use Rattle.hac_store.specs.Stores.{Bears, Opens, Stands};
+ghost use Rattle.hac_store.specs.Stores.{Stands};
 
 use crate::areas::{Begun, begin};
 use crate::fault::StoreFault;
