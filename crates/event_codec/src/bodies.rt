@@ -190,7 +190,7 @@ pub(crate) fn put_stored(
             put_list(out, version, documents.as_slice())?;
             put_list(out, version, answers.as_slice())
         }
-        Body::Document => Ok(()),
+        Body::Document => unreachable!(),
     }
 }
 

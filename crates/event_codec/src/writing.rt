@@ -104,7 +104,7 @@ fn put_event(out: &mut Vec<u8>, version: Version, event: &Event) -> Result<(), M
             out.push(15)?;
             Ok(())
         }
-        Event::Cd { .. } => Ok(()),
+        Event::Cd { .. } => unreachable!(),
     }
 }
 
@@ -128,13 +128,14 @@ fn put_named(
 
 /// Adds what an item is marked as.
 fn put_mark(out: &mut Vec<u8>, kind: Kind) -> Result<(), Memory>
+    requires { IsTrue (mark_field.fits kind) }
     ensures { OnOk result (out.new.items ≡ out.old.items ++ mark_field.text kind) }
 {
     match kind {
         Kind::Unlinked => out.push(0)?,
         Kind::Permanent => out.push(1)?,
         Kind::Prohibited => out.push(2)?,
-        Kind::Transient => {}
+        Kind::Transient => unreachable!(),
     }
     Ok(())
 }

@@ -21,6 +21,7 @@ use Rattle.hac_store.specs.declared.areas.Begun.{Begun}
 use Rattle.hac_store.specs.declared.fault.StoreFault.{StoreFault}
 use Rattle.hac_store.specs.declared.fault.StoreFault.TheVariants as fault
 use Rattle.hac_store.proofs.AreaLemmas.{area-event, area-none, area-state}
+use Rattle.hac_store.proofs.LogLemmas.{log-short}
 
 -- the state of a snapshot that was read
 pub state-read : (at : ℕ) (r : Result Snapshot ℕ) (snapshot : Snapshot) (s : State) → r ≡ Ok snapshot → s ≡ restored snapshot → IsValid s → after_snapshot at r ≡ Ok s
@@ -64,7 +65,7 @@ pub begins-closed : (seen : Option (List ℕ)) (at : ℕ) (result : Result Begun
 begins-closed None at result tells is memory = tt
 begins-closed (Some file) at result tells is memory = begun-alone Two at file result (area-none at file (inl tells)) is memory
 
-pub begins-short : (seen : Option (List ℕ)) (at place : ℕ) (result : Result Begun StoreFault) → TellsAt (Bad place) at seen → IfOk result (λ begun. begun ≡ record { replay = empty; at = at })
-    → IfErr result (λ why. why ≡ fault.Memory) → IfSome seen (λ file. BeginsArea result file (area at file))
-begins-short None at place result tells is memory = tt
-begins-short (Some file) at place result tells is memory = begun-alone Two at file result (area-none at file (inr tells.0)) is memory
+pub begins-short : (seen : Option (List ℕ)) (at place : ℕ) → TellsAt (Bad place) at seen → IfSome seen (λ file. BeginsArea (Err (fault.NotStore place)) file (area at file))
+begins-short None at place tells = tt
+begins-short (Some file) at place tells =
+    ap (placed file) (area-none at file (inr tells.0) ∙ log-short empty at file tells.0) ∙ ap (λ (n : ℕ). Err n) (sym tells.1)

@@ -1,16 +1,16 @@
 -- What a crash may leave while a new store is being made.
-use Rattle.std.proofs.Common.{◌≡◌, ◌⊎◌, inl, inr, ℕ, ◌<◌, List, [], ◌∷◌, ◌++◌, length, take, drop, slice_index, None, Some, Ok, Err, Result, IfOk, IfSome, rules, OnOk, IsErr, refl, sym, ◌∙◌, ap, subst, arith, append_assoc}
+use Rattle.std.proofs.Common.{◌≡◌, ℕ, ◌<◌, List, [], ◌∷◌, ◌++◌, length, take, drop, slice_index, None, Some, Ok, Err, Result, IfOk, IfSome, rules, OnOk, IsErr, refl, sym, ◌∙◌, ap, subst, arith, append_assoc}
 use Rattle.std.specs.declared.option.Option.{Option}
 use Rattle.std.proofs.lemmas.List.{get_or-take, drop_at, take_at, length-take}
 use Rattle.hac_disk.specs.Images.{IsQuiet, LeavesOnly, Torn, TornFrom, overlaid}
 use Rattle.hac_disk.specs.Contents.{HasByteAt, HasLength, IsSettled, StandAt, Written}
-use Rattle.hac_disk.proofs.Moments.{quiet_leaves, then_quiet, then_run, weaken}
+use Rattle.hac_disk.proofs.Moments.{quiet_leaves, then_run, weaken}
 use Rattle.hac_disk.proofs.ContentsLemmas.{if_known, told-settled}
 use Rattle.hac_journal.specs.Appending.{ClosedAt}
 use Rattle.hac_model.specs.Run.Play.{new_setting}
 use Rattle.hac_store.specs.Creating.{Becomes, IsReady, HoldsNone}
 use Rattle.hac_store.specs.Held.{held}
-use Rattle.hac_store.specs.Stores.{Bears, IsNewOrNone, Opens, Seen, Stands, first_store}
+use Rattle.hac_store.specs.Stores.{Bears, IsNewOrNone, Seen, Stands, first_store}
 use Rattle.hac_store.specs.declared.fault.StoreFault.{StoreFault}
 use Rattle.hac_model.specs.declared.states.State.{State}
 use Rattle.hac_store.specs.declared.creating.TheConstants.{NEW}
@@ -33,10 +33,6 @@ became None new P file is becomes = absurd (cc)
 became (Some old) None P file is becomes = absurd becomes
 became (Some old) (Some now) P file is becomes = record { file = now; is = refl; has = becomes }
 
-if_each : (seen : Option (List ℕ)) (P : List ℕ → Type 0) → ((file : List ℕ) → seen ≡ Some file → P file) → IfSome seen P
-if_each None P each = tt
-if_each (Some file) P each = each file refl
-
 -- the byte that was read is that of the file
 read-gate : (file into : List ℕ) → into ≡ take (length into) (drop 0 file) → 0 < length into → slice_index file 0 ≡ slice_index into 0
 read-gate file into read some = sym (get_or-take (length into) file 0 0 some) ∙ ap (λ (l : List ℕ). slice_index l 0) (sym read)
@@ -54,17 +50,19 @@ rest-ready (Some old) (Some file) new shut written =
     subst (Becomes (Some old) IsReady) (sym written) ready
 
 -- a store that was read from a settled disk: the disk stands for it
-pub loaded-stands : (old mid new : Option (List ℕ)) (image now : List ℕ → Type 0) (result : Result Seen StoreFault) → mid ≡ old → new ≡ mid → ((c : List ℕ) → now c → image c) → IsSettled mid image
-    → IfSome mid (λ file. Opens result (held file)) → IfSome old (λ _. IfOk result (λ store. Stands new now store.setting))
-loaded-stands old mid new image now result same also images settled opens =
+pub loaded-stands : (old mid new : Option (List ℕ)) (image now : List ℕ → Type 0) (result : Result Seen StoreFault) (found : Seen) → mid ≡ old → new ≡ mid → ((c : List ℕ) → now c → image c) → IsSettled mid image
+    → IfSome mid (λ file. held file ≡ Ok found.setting) → IfOk result (λ store. store ≡ found) → IfSome old (λ _. IfOk result (λ store. Stands new now store.setting))
+loaded-stands old mid new image now result found same also images settled holds is =
     subst (λ (o : Option (List ℕ)). IfSome o (λ _. IfOk result (λ store. Stands new now store.setting))) same
-    (subst (λ (o : Option (List ℕ)). IfSome mid (λ _. IfOk result (λ store. Stands o now store.setting))) (sym also) (at mid result settled opens))
+    (subst (λ (o : Option (List ℕ)). IfSome mid (λ _. IfOk result (λ store. Stands o now store.setting))) (sym also) (at mid result settled holds is))
   where
-    at : (mid : Option (List ℕ)) (result : Result Seen StoreFault) → IsSettled mid image → IfSome mid (λ file. Opens result (held file)) → IfSome mid (λ _. IfOk result (λ store. Stands mid now store.setting))
-    at None result settled opens = search rules
-    at (Some file) (Err fault) settled opens = tt
-    at (Some file) (Ok store) settled opens =
-        λ c left. ap held (settled c (images c left)) ∙ opens ∙ ap (λ (s : State). Ok (record store.setting { state = s })) (sym (held-stored file store.setting opens))
+    at : (mid : Option (List ℕ)) (result : Result Seen StoreFault) → IsSettled mid image → IfSome mid (λ file. held file ≡ Ok found.setting) → IfOk result (λ store. store ≡ found)
+        → IfSome mid (λ _. IfOk result (λ store. Stands mid now store.setting))
+    at None result settled holds is = search rules
+    at (Some file) (Err fault) settled holds is = tt
+    at (Some file) (Ok store) settled holds is =
+        let told : held file ≡ Ok store.setting = holds ∙ ap (λ (s : Seen). Ok s.setting) (sym is) in
+        λ c left. ap held (settled c (images c left)) ∙ told ∙ ap (λ (s : State). Ok (record store.setting { state = s })) (sym (held-stored file store.setting told))
 
 -- once its gate is open, it is a new store
 pub opened-stands : {E : Type 0} (result : Result Unit E) (seen mid new : Option (List ℕ)) (image : List ℕ → Type 0) → Becomes seen IsReady mid
@@ -163,15 +161,3 @@ module _ {D : Type 0} (seen : D → Option (List ℕ)) (image : D → List ℕ �
       let all = became (seen old) (seen mid) IsReady file is ready in
       then_run moment image_since old mid new IsNewOrNone (subst (λ s. IfSome s (λ _. LeavesNew old mid)) is so_far)
       (write-run mid new 0 1 all.file all.is kept run (λ c torn. torn-open all.file c all.has torn)))
-
-  -- a store is made once nothing was found
-  pub made-moments : (old synced found new : D) → Quiet old synced → Quiet synced found → Leaves found new
-      → IfSome (seen old) (λ file. IsErr (held file) → LeavesOnly moment image_since old new (λ c. image old c ⊎ IsNewOrNone c))
-  made-moments old synced found new first second leaves =
-      if_each (seen old) (λ file. IsErr (held file) → LeavesOnly moment image_since old new (λ c. image old c ⊎ IsNewOrNone c)) (λ file is none.
-      let told : seen found ≡ Some file = second.same ∙ first.same ∙ is in
-      let run = subst (λ s. IfSome s (λ _. LeavesNew found new)) told leaves in
-      let P : List ℕ → Type 0 = λ c. image old c ⊎ IsNewOrNone c in
-      let begun = quiet_leaves moment image_since seen image old synced P (λ c since. inl (only_now old c since)) first in
-      then_run moment image_since old found new P (then_quiet moment image_since seen image old synced found P begun second)
-      (weaken moment image_since found new IsNewOrNone P (λ c new. inr new) run))

@@ -7,7 +7,7 @@ use Rattle.hac_checkpoint.specs.Roots.{root_of, IsRootSeen}
 use Rattle.hac_checkpoint.specs.declared.heads.Root.{Root}
 use Rattle.hac_checkpoint.specs.declared.heads.Stop.{Stop}
 use Rattle.hac_journal.specs.Finding.{Found, Whole, Closed, Short, TellsAt, found_at, found_in}
-use Rattle.hac_journal.specs.declared.finding.Next.TheVariants.{Entry, End, Bad}
+use Rattle.hac_journal.specs.declared.finding.Next.TheVariants.{Entry, End}
 use Rattle.hac_journal.proofs.LawLemmas.{found-is-whole}
 use Rattle.hac_model.specs.Payload.Payloads.{spelled}
 use Rattle.hac_model.specs.Payload.States.{spelled_snapshot}
@@ -111,16 +111,16 @@ leaves-stop None old start s at next payload first count more left tells few = t
 leaves-stop (Some file) old start s at next payload first count more left tells few = omega (arith, left, few, replay-whole s at file payload.items next tells)
 
 -- where an area is begun, its log goes on
-abbrev pub Loads : Result Begun StoreFault → ℕ → List ℕ → Type 0
-Loads result at file = IfOk result (λ begun. loading_area at file ≡ replaying begun.replay begun.at file)
+abbrev pub Continues : Result Begun StoreFault → ℕ → List ℕ → Type 0
+Continues result at file = IfOk result (λ begun. loading_area at file ≡ replaying begun.replay begun.at file)
 
 loads-alone : (version : Version) (at : ℕ) (file : List ℕ) (result : Result Begun StoreFault) → loading_area at file ≡ replaying (root_alone version) at file
-    → IfOk result (λ begun. begun ≡ record { replay = root_alone version; at = at }) → Loads result at file
+    → IfOk result (λ begun. begun ≡ record { replay = root_alone version; at = at }) → Continues result at file
 loads-alone version at file (Ok begun) leads is = leads ∙ ap (λ (b : Begun). replaying b.replay b.at file) (sym is)
 loads-alone version at file (Err why) leads is = tt
 
 pub loads-event : (at : ℕ) (file payload : List ℕ) (behind : ℕ) (result : Result Begun StoreFault) → found_at at file ≡ Whole payload behind → is_state payload ≡ false
-    → IfOk result (λ begun. begun ≡ record { replay = root_alone (first_version payload); at = at }) → Loads result at file
+    → IfOk result (λ begun. begun ≡ record { replay = root_alone (first_version payload); at = at }) → Continues result at file
 loads-event at file payload behind result found none is =
     loads-alone (first_version payload) at file result
     (ap (loading_found at file) found
@@ -135,14 +135,9 @@ loads-state at file payload behind s found whole is =
     ∙ ap (λ (r : Result State Stop). reading_on r (λ new. replaying new behind file)) is
 
 pub loads-closed : (seen : Option (List ℕ)) (at : ℕ) (result : Result Begun StoreFault) → TellsAt End at seen → IfOk result (λ begun. begun ≡ record { replay = empty; at = at })
-    → IfSome seen (λ file. Loads result at file)
+    → IfSome seen (λ file. Continues result at file)
 loads-closed None at result tells is = tt
 loads-closed (Some file) at result tells is = loads-alone Two at file result (ap (loading_found at file) tells) is
-
-pub loads-short : (seen : Option (List ℕ)) (at place : ℕ) (result : Result Begun StoreFault) → TellsAt (Bad place) at seen → IfOk result (λ begun. begun ≡ record { replay = empty; at = at })
-    → IfSome seen (λ file. Loads result at file)
-loads-short None at place result tells is = tt
-loads-short (Some file) at place result tells is = loads-alone Two at file result (ap (loading_found at file) tells.0) is
 
 -- the area of a root is what is read of a store
 load-root : (file : List ℕ) (here : Root) → root_of file ≡ Ok here → loading file ≡ loading_area here.start file
@@ -157,12 +152,13 @@ pub loaded-none : (seen : Option (List ℕ)) (first : ℕ) → Loaded seen first
 loaded-none None first = tt
 loaded-none (Some file) first = omega arith
 
-pub loaded-log : (seen : Option (List ℕ)) (here : Root) (begun : Begun) (first count : ℕ) → IsRootSeen (Ok here) seen → IfSome seen (λ file. Loads (Ok begun) here.start file)
+pub loaded-log : (seen : Option (List ℕ)) (here : Root) (begun : Begun) (first count : ℕ) → IsRootSeen (Ok here) seen → IfSome seen (λ file. Continues (Ok begun) here.start file)
     → Within seen begun.replay begun.at first count → Loaded seen first count
 loaded-log None here begun first count root_is loads within = tt
 loaded-log (Some file) here begun first count root_is loads within = omega (arith, load-root file here root_is, loads, within)
 
-pub loaded-opened : (seen : Option (List ℕ)) (here : Root) (begun : Begun) (s : State) (first count more : ℕ) → IsRootSeen (Ok here) seen → IfSome seen (λ file. Loads (Ok begun) here.start file)
-    → IfSome seen (λ file. count + opening s ≤ first + replaying begun.replay begun.at file) → more ≤ count + opening s → Loaded seen first more
-loaded-opened None here begun s first count more root_is loads within few = tt
-loaded-opened (Some file) here begun s first count more root_is loads within few = omega (arith, load-root file here root_is, loads, within, few)
+-- what is left then is enough to find the links of the state
+pub loaded-ready : (seen : Option (List ℕ)) (here : Root) (begun : Begun) (s : State) (first count : ℕ) → IsRootSeen (Ok here) seen → IfSome seen (λ file. Continues (Ok begun) here.start file)
+    → IfSome seen (λ file. count + opening s ≤ first + replaying begun.replay begun.at file) → IfSome seen (λ file. count + opening s ≤ first + loading file)
+loaded-ready None here begun s first count root_is loads within = tt
+loaded-ready (Some file) here begun s first count root_is loads within = omega (arith, load-root file here root_is, loads, within)

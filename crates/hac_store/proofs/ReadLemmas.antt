@@ -1,10 +1,8 @@
 -- A log that is read record by record, of a disk that tells its bytes.
-use Rattle.std.proofs.Common.{◌≡◌, ℕ, ◌-◌, ◌≤◌, List, length, None, Some, IfOk, IfSome, Result, Ok, Err, sym, ◌∙◌, ap, subst, arith, Vec}
+use Rattle.std.proofs.Common.{◌≡◌, ℕ, ◌-◌, ◌≤◌, List, length, None, Some, IfSome, Result, Ok, Err, sym, ◌∙◌, ap, subst, arith, Vec}
 use Rattle.std.specs.declared.alloc.Global.{Global}
 use Rattle.std.specs.declared.option.Option.{Option}
 use Rattle.hac_disk.specs.Images.{IsQuiet}
-use Rattle.hac_disk.specs.Contents.{IsSettled}
-use Rattle.hac_disk.proofs.ContentsLemmas.{told-settled}
 use Rattle.hac_checkpoint.specs.Roots.{placed, root_of, IsRootSeen}
 use Rattle.hac_checkpoint.specs.declared.heads.Root.{Root}
 use Rattle.hac_checkpoint.specs.declared.heads.RootFault.{RootFault}
@@ -14,7 +12,6 @@ use Rattle.hac_checkpoint.specs.declared.heads.Stop.TheVariants as stop
 use Rattle.hac_journal.specs.Finding.{TellsAt}
 use Rattle.hac_journal.specs.declared.finding.Next.TheVariants.{Entry, End, Bad}
 use Rattle.hac_model.specs.Run.Answers.{◌>>=◌}
-use Rattle.hac_model.specs.Run.Play.{stored_setting}
 use Rattle.hac_model.specs.Payload.Payloads.{all_of, payload_field, spelled}
 use Rattle.hac_model.specs.Payload.Payloads.{placed as within_payload}
 use Rattle.hac_model.specs.Payload.States.{snapshot_payload, spelled_snapshot}
@@ -23,11 +20,11 @@ use Rattle.hac_model.specs.declared.versions.Version.{Version}
 use Rattle.hac_store.specs.Faults.{of_root}
 use Rattle.hac_store.specs.Held.{Log, area, from_root, go_on, held, after_payload, log, with_root}
 use Rattle.hac_store.specs.Reading.{BeginsArea, Judges, ReadsLog}
-use Rattle.hac_store.specs.Stores.{Opens, Seen, Stands}
+use Rattle.hac_store.specs.Stores.{Opens}
 use Rattle.hac_store.specs.declared.areas.Begun.{Begun}
 use Rattle.hac_store.specs.declared.fault.StoreFault.{StoreFault}
 use Rattle.hac_store.specs.declared.fault.StoreFault.TheVariants as fault
-use Rattle.hac_store.proofs.HeldLemmas.{held-area, held-root, held-stored, setting_of}
+use Rattle.hac_store.proofs.HeldLemmas.{held-area, held-root, setting_of}
 use Rattle.hac_store.proofs.LogLemmas.{log-closed, log-short, log-whole}
 
 -- so far the log of a file was read as what it is from here on
@@ -149,16 +146,3 @@ quiet-twice seen image moment image_since old mid new first second = record {
   past = λ t c early left. first.past t c early (second.past t c (omega (arith, early, first.later)) left);
   keeps = λ t c early left. second.keeps t c (omega (arith, early, first.later)) (first.keeps t c early left);
 }
-
--- what a call opened that was settled before stays so
-pub opened-stands : (result : Result Seen StoreFault) (seen mid new : Option (List ℕ)) (image now : List ℕ → Type 0) → mid ≡ seen → IsSettled mid image → new ≡ mid
-    → ((c : List ℕ) → now c → image c) → IfSome mid (λ file. Opens result (held file)) → IfSome seen (λ _. IfOk result (λ store. Stands new now store.setting))
-opened-stands result None mid new image now same settled quiet images opens = tt
-opened-stands (Err why) (Some file) mid new image now same settled quiet images opens = tt
-opened-stands (Ok store) (Some file) mid new image now same settled quiet images opens =
-    let told : new ≡ Some file = quiet ∙ same in
-    let only = told-settled mid file image same settled in
-    let is = subst (λ s. IfSome s (λ f. held f ≡ Ok store.setting)) same opens in
-    let kept : held file ≡ Ok (stored_setting store.setting) = is ∙ ap (λ (s : State). Ok (record store.setting { state = s })) (sym (held-stored file store.setting is)) in
-    let stands : Stands (Some file) now store.setting = λ c left. ap held (only c (images c left)) ∙ kept in
-    subst (λ s. Stands s now store.setting) (sym told) stands

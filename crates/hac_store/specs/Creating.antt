@@ -1,9 +1,14 @@
 -- What is on a disk while a new store is made. Of a disk that tells nothing, nothing is said.
-use Rattle.std.specs.Prelude.{◌≡◌, ℕ, List, drop, take, None, Some, ⊤, Result, Ok, Err, IsErr}
+use Rattle.std.specs.Prelude.{◌≡◌, ℕ, Bool, List, drop, take, None, Some, ⊤, Result, Ok, Err, IfOk, IfSome, IsErr, OnOk}
 use Rattle.std.specs.declared.option.Option.{Option}
+use Rattle.hac_disk.specs.Images.{IsQuiet}
+use Rattle.hac_model.specs.Run.Play.{new_setting}
+use Rattle.hac_outside.specs.Causes.{ReportsFault}
+use Rattle.hac_store.specs.Faults.{is_disk_fault}
 use Rattle.hac_store.specs.Held.{held}
+use Rattle.hac_store.specs.Stores.{Bears, Seen, Stands, first_store}
 use Rattle.hac_store.specs.declared.fault.StoreFault.{StoreFault}
-use Rattle.hac_store.specs.declared.fault.StoreFault.TheVariants.{NotStore, AlreadyStore}
+use Rattle.hac_store.specs.declared.fault.StoreFault.TheVariants.{NotStore, AlreadyStore, Full, Memory}
 use Rattle.hac_store.specs.declared.creating.TheConstants.{NEW}
 
 -- why no store is made, given why none was read
@@ -26,3 +31,17 @@ Becomes (Some old) P (Some new) = P new
 -- behind its first byte it goes on as a new store
 abbrev pub IsReady : List ℕ → Type 0
 IsReady file = take 64 (drop 1 file) ≡ drop 1 NEW
+
+-- What making a store does: after Ok the disk holds the root alone and bears the first store, and where memory ran out
+-- nothing was written.
+pub record Creates {D : Type 0} (seen : D → Option (List ℕ)) (image : D → List ℕ → Type 0)
+    (moment : D → ℕ) (image_since : D → ℕ → List ℕ → Type 0)
+    (attached : D → Option (List (List ℕ × Bool))) (faults : D → ℕ) (old new : D)
+    (result : Result Seen StoreFault) : Type 0 where
+  pub store : IfOk result (λ store. store ≡ first_store)
+  pub stands : IfSome (seen old) (λ _. OnOk result (Stands (seen new) (image new) new_setting))
+  pub place : IfOk result (λ store. Bears (seen new) store)
+  pub unwritten : result ≡ Err Memory → IsQuiet seen image moment image_since old new
+  pub kind : ((at : ℕ) → result ≡ Err (NotStore at) → ⊥) × (result ≡ Err Full → ⊥)
+  pub names : attached new ≡ attached old
+  pub reported : ReportsFault (is_disk_fault result) (faults old) (faults new)

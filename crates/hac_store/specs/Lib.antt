@@ -4,6 +4,7 @@ pub mod Faults
 pub mod Held
 pub mod Laws
 pub mod Loading
+pub mod Opening
 pub mod Reading
 pub mod Stores
 pub mod Storing

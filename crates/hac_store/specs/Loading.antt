@@ -42,7 +42,7 @@ replaying s at file = replaying_from (length file) s at file
 -- an area that begins at a gate, given what is found there: where its first record is no whole state, the log is all of
 -- it, from the root alone
 abbrev pub loading_found : ℕ → List ℕ → Found → ℕ
-loading_found at file Short = replaying (root_alone Two) at file
+loading_found at file Short = 0
 loading_found at file Closed = replaying (root_alone Two) at file
 loading_found at file (Whole payload behind) =
     if is_state payload then reading_on (after_snapshot at (spelled_snapshot payload)) (λ new. replaying new behind file)

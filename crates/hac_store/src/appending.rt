@@ -74,7 +74,7 @@ impl Store {
         ensures probes { probes.new ≤ probes.old
             + storing_cost self.old.setting (replicate count event.Step) }
     {
-        if !self.room_for(count, 2) {
+        if !self.room_for_steps(count) {
             return Err(StoreFault::Full);
         }
         let payloads = step_payloads(self.alloc, self.machine.version(), count)?;

@@ -41,7 +41,7 @@ pub(crate) fn begin<D: Disk>(alloc: Global, disk: &mut D, start: u64) -> Result<
     match next(alloc, disk, start)? {
         Next::Entry { payload, next } => begin_behind(alloc, start, &payload, next),
         Next::End => begin_empty(alloc, Version::Two, start),
-        Next::Bad { .. } => begin_empty(alloc, Version::Two, start),
+        Next::Bad { at } => Err(StoreFault::NotStore { at }),
     }
 }
 

@@ -1,18 +1,17 @@
 //! Making a new store: all of it is written behind a closed gate, which is then opened.
-ghost use Rattle.std.specs.Prelude.{◌≡◌, ◌⊎◌, ◌≤◌, ◌+◌, Err, IfOk, IfSome, IsErr, IsOk, OnOk, ℕ};
-ghost use Rattle.hac_outside.specs.Causes.{HasCause, ReportsFault};
+ghost use Rattle.std.specs.Prelude.{◌≡◌, ◌⊎◌, ◌≤◌, ◌+◌, Err, IfSome, IsErr, IsOk, OnOk};
+ghost use Rattle.hac_outside.specs.Causes.{HasCause};
 ghost use Rattle.hac_disk.specs.Images.{IsQuiet, LeavesOnly};
 ghost use Rattle.hac_disk.specs.Contents.{HasByteAt, IsSettled};
 ghost use Rattle.hac_journal.specs.Appending.{ClosedAt};
 ghost use Rattle.hac_model.specs.Run.Play.{new_setting};
-ghost use Rattle.hac_store.specs.Creating.{Becomes, IsReady, HoldsNone, none_in};
-ghost use Rattle.hac_store.specs.Faults.{is_disk_fault};
+ghost use Rattle.hac_store.specs.Creating.{Becomes, Creates, IsReady, HoldsNone, none_in};
 ghost use Rattle.hac_store.specs.Held.{held};
 ghost use Rattle.hac_store.specs.Loading.{loading};
 ghost use Rattle.hac_store.specs.Stores.{Bears, IsNewOrNone, Stands, first_store};
 
 use crate::fault::StoreFault;
-use crate::opening::read_store;
+use crate::opening::read_unlinked;
 use crate::store::Store;
 use hac_checkpoint::Slot;
 use hac_core::Machine;
@@ -29,19 +28,17 @@ const NEW: [u8; 65] =
     *b"\0HACSTOR1\x01\x01\0\0\0\0\0\0\0\x40\0\0\0\0\0\0\0\0\0\0\0\0\0\0\0\0\0\0\0\0\0\0\0\0\0\0\0\0\0\0\0\0\0\0\0\0\0\0\0\0\0\0\0\0\0\0";
 
 impl Store {
-    /// Makes a new store on a disk that holds none.
+    /// Makes a new store on a disk that holds none. After `Memory` nothing was written.
     pub fn create<D: Disk, L: Ledger>(
         alloc: Global,
         disk: &mut D,
         probes: &mut Steps<L>,
     ) -> Result<Store, StoreFault>
-        ensures made { IfOk result (λ store. store ≡ first_store) }
+        ensures creates { Creates D.seen D.image D.moment D.image_since D.attached D.faults disk.old
+            disk.new result }
         ensures new { IfSome (D.seen disk.old) (λ file. OnOk result (IsErr (held file))) }
         ensures already { IfSome (D.seen disk.old)
             (λ file. result ≡ Err StoreFault.AlreadyStore → IsOk (held file)) }
-        ensures stands { IfSome (D.seen disk.old) (λ _. OnOk result
-            (Stands (D.seen disk.new) (D.image disk.new) new_setting)) }
-        ensures place { IfOk result (λ store. Bears (D.seen disk.new) store) }
         ensures quiet { IfSome (D.seen disk.old) (λ file. IsOk (held file) →
             IsQuiet D.seen D.image D.moment D.image_since disk.old disk.new) }
         // At each moment a crash leaves what it might have left before, or the root alone, or no
@@ -49,16 +46,11 @@ impl Store {
         ensures any_moment { IfSome (D.seen disk.old) (λ file. IsErr (held file) →
             LeavesOnly D.moment D.image_since disk.old disk.new
             (λ c. D.image disk.old c ⊎ IsNewOrNone c)) }
-        ensures kind { ((at : ℕ) → result ≡ Err (StoreFault.NotStore at) → ⊥) ×
-            (result ≡ Err StoreFault.Full → ⊥) }
-        ensures attached { D.attached disk.new ≡ D.attached disk.old }
-        ensures faults { ReportsFault (is_disk_fault result) (D.faults disk.old)
-            (D.faults disk.new) }
         ensures probes { IfSome (D.seen disk.old)
             (λ file. probes.new ≤ probes.old + loading file) }
     {
         disk.sync()?;
-        none(read_store(alloc, disk, probes).err())?;
+        none(read_unlinked(alloc, disk, probes).err())?;
         new_store(alloc, disk)
     }
 }
@@ -78,16 +70,11 @@ fn none(found: Option<StoreFault>) -> Result<(), StoreFault>
 fn new_store<D: Disk>(alloc: Global, disk: &mut D) -> Result<Store, StoreFault>
     requires settled { IsSettled (D.seen disk.old) (D.image disk.old) }
     requires unheld { HoldsNone (D.seen disk.old) }
-    ensures made { IfOk result (λ store. store ≡ first_store) }
-    ensures stands { IfSome (D.seen disk.old) (λ _. OnOk result
-        (Stands (D.seen disk.new) (D.image disk.new) new_setting)) }
-    ensures place { IfOk result (λ store. Bears (D.seen disk.new) store) }
+    ensures creates { Creates D.seen D.image D.moment D.image_since D.attached D.faults disk.old
+        disk.new result }
     ensures any_moment { IfSome (D.seen disk.old)
         (λ _. LeavesOnly D.moment D.image_since disk.old disk.new IsNewOrNone) }
-    ensures kind { ((at : ℕ) → result ≡ Err (StoreFault.NotStore at) → ⊥) ×
-        (result ≡ Err StoreFault.AlreadyStore → ⊥) × (result ≡ Err StoreFault.Full → ⊥) }
-    ensures attached { D.attached disk.new ≡ D.attached disk.old }
-    ensures faults { ReportsFault (is_disk_fault result) (D.faults disk.old) (D.faults disk.new) }
+    ensures none { result ≡ Err StoreFault.AlreadyStore → ⊥ }
 {
     let machine = Machine::new(alloc, Version::Two)?;
     match write_new(disk) {

@@ -1,6 +1,6 @@
 //! Opening a store: its log is read, its events happen one by one, and links are found behind them.
 ghost use Rattle.std.specs.Prelude.{◌≡◌, ◌+◌, ◌<◌, ◌≤◌, ◌^◌, false, length, Ok, Err, IfOk};
-ghost use Rattle.std.specs.Prelude.{IfSome, IsTrue, OnOk};
+ghost use Rattle.std.specs.Prelude.{IfErr, IfSome, IsTrue, OnOk};
 ghost use Rattle.hac_outside.specs.Causes.{ReportsFault};
 ghost use Rattle.hac_disk.specs.Images.{IsQuiet};
 ghost use Rattle.hac_disk.specs.Contents.{HasByteAt, IsSettled};
@@ -9,22 +9,24 @@ ghost use Rattle.hac_model.specs.Tree.Costs.{opening, weight};
 ghost use Rattle.hac_model.specs.Tree.Sessions.{is_stored};
 ghost use Rattle.hac_model.specs.Tree.Valid.{IsValid};
 ghost use Rattle.hac_store.specs.Faults.{is_disk_fault};
-ghost use Rattle.hac_store.specs.Held.{held, after_payload, log};
+ghost use Rattle.hac_store.specs.Held.{after_payload, log};
 ghost use Rattle.hac_store.specs.Loading.{judging, loading, replaying};
+ghost use Rattle.hac_store.specs.Opening.{Loads};
 ghost use Rattle.hac_store.specs.Reading.{Judges, ReadsLog};
-ghost use Rattle.hac_store.specs.Stores.{Bears, Opens, Stands};
+ghost use Rattle.hac_store.specs.Stores.{Stands};
 
 use crate::areas::{Begun, begin};
 use crate::fault::StoreFault;
 use crate::store::Store;
 use event_codec::{CodecFault, read_event};
-use hac_checkpoint::roots;
+use hac_checkpoint::{Root, roots};
 use hac_core::Replay;
 use hac_disk::Disk;
 use hac_journal::{LogReader, Next};
 use hac_model::Event;
 use hac_outside::Steps;
 use std::alloc::Global;
+use std::marker::Model;
 use std::sync::ledger::Ledger;
 
 impl Store {
@@ -34,46 +36,68 @@ impl Store {
         disk: &mut D,
         probes: &mut Steps<L>,
     ) -> Result<Store, StoreFault>
-        ensures held { IfSome (D.seen disk.old) (λ file. Opens result (held file)) }
+        ensures loads { Loads D.seen D.image D.moment D.image_since D.attached D.faults disk.old
+            disk.new probes.old probes.new result }
         ensures sound { IfOk result (λ store. (store.broken ≡ false) ×
             IsValid store.setting.state) }
         ensures stands { IfSome (D.seen disk.old) (λ _. IfOk result
             (λ store. Stands (D.seen disk.new) (D.image disk.new) store.setting)) }
-        ensures place { IfOk result (λ store. Bears (D.seen disk.new) store) }
         ensures settled { OnOk result (IsSettled (D.seen disk.new) (D.image disk.new)) }
-        ensures quiet { IsQuiet D.seen D.image D.moment D.image_since disk.old disk.new }
-        ensures kind { (result ≡ Err StoreFault.AlreadyStore → ⊥) ×
-            (result ≡ Err StoreFault.Full → ⊥) }
-        ensures attached { D.attached disk.new ≡ D.attached disk.old }
-        ensures faults { ReportsFault (is_disk_fault result) (D.faults disk.old)
-            (D.faults disk.new) }
-        ensures probes { IfSome (D.seen disk.old)
-            (λ file. probes.new ≤ probes.old + loading file) }
     {
         disk.sync()?;
-        read_store(alloc, disk, probes)
+        match read_unlinked(alloc, disk, probes) {
+            Ok(unlinked) => unlinked.linked(probes),
+            Err(fault) => Err(fault),
+        }
     }
 }
 
-/// Reads the store on a disk. It writes nothing.
-pub(crate) fn read_store<D: Disk, L: Ledger>(
+/// What a disk holds, seen as the store that it is once its links are found.
+#[derive(Drop)]
+pub(crate) struct Unlinked {
     alloc: Global,
-    disk: &mut D,
-    probes: &mut Steps<L>,
-) -> Result<Store, StoreFault>
-    ensures held { IfSome (D.seen disk.old) (λ file. Opens result (held file)) }
-    ensures sound { IfOk result (λ store. (store.broken ≡ false) × IsValid store.setting.state) }
-    ensures place { IfOk result (λ store. Bears (D.seen disk.new) store) }
-    ensures quiet { IsQuiet D.seen D.image D.moment D.image_since disk.old disk.new }
-    ensures kind { (result ≡ Err StoreFault.AlreadyStore → ⊥) × (result ≡ Err StoreFault.Full → ⊥) }
-    ensures attached { D.attached disk.new ≡ D.attached disk.old }
-    ensures faults { ReportsFault (is_disk_fault result) (D.faults disk.old) (D.faults disk.new) }
-    ensures probes { IfSome (D.seen disk.old) (λ file. probes.new ≤ probes.old + loading file) }
-{
-    let root = roots(disk)?;
-    let Begun { mut replay, at } = begin(alloc, disk, root.start)?;
-    match read_log(alloc, disk, &mut replay, at, probes) {
-        Ok(end) => Ok(Store {
+    replay: Replay,
+    root: Root,
+    end: u64,
+}
+
+impl Model for Unlinked {
+    ghost use Rattle.std.specs.Prelude.{◌≤◌, false};
+    ghost use Rattle.hac_store.specs.Stores.{Seen, seen_code};
+
+    ghost Value = { Seen };
+
+    ghost coded = { seen_code };
+
+    ghost view = { λ unlinked. record {
+      setting = record {
+        state = unlinked.replay;
+        start = unlinked.root.start;
+        end = unlinked.end;
+        generation = unlinked.root.generation;
+      };
+      slot = unlinked.root.slot;
+      broken = false;
+    } };
+
+    ghost invariant = { λ unlinked. unlinked.root.start ≤ unlinked.end };
+}
+
+impl Unlinked {
+    // Finds the links.
+    fn linked<L: Ledger>(self, probes: &mut Steps<L>) -> Result<Store, StoreFault>
+        ensures store { IfOk result (λ store. store ≡ self) }
+        ensures valid { IfOk result (λ store. IsValid store.setting.state) }
+        ensures memory { IfErr result (λ fault. fault ≡ StoreFault.Memory) }
+        ensures probes { probes.new ≤ probes.old + opening self.setting.state }
+    {
+        let Unlinked {
+            alloc,
+            replay,
+            root,
+            end,
+        } = self;
+        Ok(Store {
             alloc,
             machine: replay.machine(probes)?,
             slot: root.slot,
@@ -81,6 +105,30 @@ pub(crate) fn read_store<D: Disk, L: Ledger>(
             end,
             generation: root.generation,
             broken: false,
+        })
+    }
+}
+
+/// Reads what a disk holds, and finds no links. It writes nothing.
+pub(crate) fn read_unlinked<D: Disk, L: Ledger>(
+    alloc: Global,
+    disk: &mut D,
+    probes: &mut Steps<L>,
+) -> Result<Unlinked, StoreFault>
+    ensures loads { Loads D.seen D.image D.moment D.image_since D.attached D.faults disk.old
+        disk.new probes.old probes.new result }
+    // What is left is enough to find the links.
+    ensures opens { IfSome (D.seen disk.old) (λ file. IfOk result (λ unlinked.
+        probes.new + opening unlinked.setting.state ≤ probes.old + loading file)) }
+{
+    let root = roots(disk)?;
+    let Begun { mut replay, at } = begin(alloc, disk, root.start)?;
+    match read_log(alloc, disk, &mut replay, at, probes) {
+        Ok(end) => Ok(Unlinked {
+            alloc,
+            replay,
+            root,
+            end,
         }),
         Err(fault) => {
             drop(replay);

@@ -1,11 +1,16 @@
 //! The store itself: what it is made of, and what it says.
-ghost use Rattle.std.specs.Prelude.{◌≡◌};
+ghost use Rattle.std.specs.Prelude.{◌≡◌, replicate};
+ghost use Rattle.hac_model.specs.Run.Play.{have_room};
+ghost use Rattle.hac_model.specs.declared.events.Event.TheVariants as event;
 ghost use Rattle.hac_store.specs.Stores.{fit_behind};
 
 use hac_checkpoint::Slot;
 use hac_core::Machine;
 use std::alloc::Global;
 use std::marker::Model;
+
+// How many bytes the payload of an index step has.
+const STEP_BYTES: u64 = 2;
 
 /// A tree in a store: the machine, and where its log ends on the disk.
 #[derive(Drop)]
@@ -50,13 +55,6 @@ impl Store {
         &self.machine
     }
 
-    /// A write of this store failed, so what is on the disk isn't known: it is to be loaded again.
-    pub fn broken(&self) -> bool
-        ensures { result ≡ self.now.broken }
-    {
-        self.broken
-    }
-
     /// Whether `records` records with payloads of `payload` bytes each fit in the store.
     pub fn room_for(&self, records: u64, payload: u64) -> bool
         ensures { result ≡ fit_behind self.now.setting.state.version self.now.setting.end records
@@ -64,5 +62,12 @@ impl Store {
     {
         let size = records.saturating_mul(payload.saturating_add(5));
         records == 0 || self.end.saturating_add(size) < self.machine.version().store_limit()
+    }
+
+    /// Whether the store has room for `count` index steps.
+    pub fn room_for_steps(&self, count: u64) -> bool
+        ensures { result ≡ have_room self.now.setting (replicate count event.Step) }
+    {
+        self.room_for(count, STEP_BYTES)
     }
 }

@@ -1,5 +1,5 @@
 use Rattle.hac_store.proofs.BeginLemmas.{begins-closed, begins-short}
-use Rattle.hac_store.proofs.LoadLemmas.{loads-closed, loads-short}
+use Rattle.hac_store.proofs.LoadLemmas.{loads-closed}
 use Rattle.hac_store.proofs.areas.begin.Goals as goal
 
 pub returns-in-End-clause-area : goal.returns-in-End-clause-area
@@ -10,14 +10,9 @@ returns-in-End-clause-area g c =
 pub returns-in-Bad-clause-area : goal.returns-in-Bad-clause-area
 returns-in-Bad-clause-area g c =
     let tells = rw c.in-Bad.is at c.in_ok-payload.ensures.next in
-    begins-short (g.D.Disk.seen c.args.disk.now) c.args.start c.in-Bad.at c.begin_empty-in-Bad.result tells c.begin_empty-in-Bad.ensures.begun c.begin_empty-in-Bad.ensures.memory
+    begins-short (g.D.Disk.seen c.args.disk.now) c.args.start c.in-Bad.at tells
 
 pub returns-in-End-clause-loads : goal.returns-in-End-clause-loads
 returns-in-End-clause-loads g c =
     let tells = rw c.in-End.is at c.in_ok-payload.ensures.next in
     loads-closed (g.D.Disk.seen c.args.disk.now) c.args.start c.begin_empty.result tells c.begin_empty.ensures.begun
-
-pub returns-in-Bad-clause-loads : goal.returns-in-Bad-clause-loads
-returns-in-Bad-clause-loads g c =
-    let tells = rw c.in-Bad.is at c.in_ok-payload.ensures.next in
-    loads-short (g.D.Disk.seen c.args.disk.now) c.args.start c.in-Bad.at c.begin_empty-in-Bad.result tells c.begin_empty-in-Bad.ensures.begun

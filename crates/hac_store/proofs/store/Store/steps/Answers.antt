@@ -1,15 +1,13 @@
-use Rattle.std.proofs.Common.{◌≡◌, true, false, replicate, Err, ap, arith, refl, ◌∙◌, sym}
+use Rattle.std.proofs.Common.{replicate, Err, ap, arith, refl, ◌∙◌, sym}
 use Rattle.std.proofs.lemmas.Result.{err_from_is_err_and}
-use Rattle.hac_model.specs.Run.Play.{have_room}
 use Rattle.hac_model.specs.declared.events.Event.TheVariants.{Step}
 use Rattle.hac_store.proofs.PutLemmas.{none-stored, steps-kept}
-use Rattle.hac_store.proofs.RoomLemmas.{room-costs, steps-have-room}
+use Rattle.hac_store.proofs.RoomLemmas.{room-costs}
 use Rattle.hac_store.proofs.store.Store.steps.Goals as goal
 
-pub returns-then-not-room_for-clause-stores : goal.returns-then-not-room_for-clause-stores
-returns-then-not-room_for-clause-stores g c =
-    none-stored g.met.D.Disk.only_now refl
-    (steps-have-room c.args.self.now.setting c.args.count ∙ sym c.room_for.ensures ∙ c.if-not-room_for.true, (refl, refl)) refl
+pub returns-then-not-room_for_steps-clause-stores : goal.returns-then-not-room_for_steps-clause-stores
+returns-then-not-room_for_steps-clause-stores g c =
+    none-stored g.met.D.Disk.only_now refl (sym c.room_for_steps.ensures ∙ c.if-not-room_for_steps.true, (refl, refl)) refl
 
 pub returns-in_err-payloads-clause-stores : goal.returns-in_err-payloads-clause-stores
 returns-in_err-payloads-clause-stores g c =
@@ -17,21 +15,11 @@ returns-in_err-payloads-clause-stores g c =
     rw (stop.1 ∙ ap Err stop.2)
     (none-stored g.met.D.Disk.only_now refl (refl, refl) refl)
 
--- past the test there is room
-pub returns-in_err-payloads-clause-room : goal.returns-in_err-payloads-clause-room
-returns-in_err-payloads-clause-room g c = λ none.
-    absurd (let never : true ≡ false = sym c.if-not-room_for.false ∙ c.room_for.ensures ∙ sym (steps-have-room c.args.self.now.setting c.args.count) ∙ none in cc)
-
-pub returns-clause-room : goal.returns-clause-room
-returns-clause-room g c = λ none.
-    absurd (let never : true ≡ false = sym c.if-not-room_for.false ∙ c.room_for.ensures ∙ sym (steps-have-room c.args.self.now.setting c.args.count) ∙ none in cc)
-
 pub put-requires-clause-stored : goal.put-requires-clause-stored
 put-requires-clause-stored g c = steps-kept c.args.count
 
 pub returns-clause-probes : goal.returns-clause-probes
 returns-clause-probes g c =
     let z = c.args.self.now.setting in
-    let room : have_room z (replicate c.args.count Step) ≡ true = steps-have-room z c.args.count ∙ sym c.room_for.ensures ∙ c.if-not-room_for.false in
-    let all = room-costs z (replicate c.args.count Step) room in
+    let all = room-costs z (replicate c.args.count Step) (sym c.room_for_steps.ensures ∙ c.if-not-room_for_steps.false) in
     omega (arith, c.put.ensures.probes, all)
