@@ -15,7 +15,7 @@ use Rattle.sem_mounts.specs.Seen.{SpacesSeen}
 use Rattle.hac_top.specs.Asking.{given_by}
 use Rattle.hac_top.specs.Ends.{IsOpenStatus, end_status, is_disk_fault, is_read_fault, is_write_fault}
 use Rattle.hac_top.specs.Replies.{StopsWriting, WritesAll}
-use Rattle.hac_top.specs.Run.{Outside, PlaysOn, PlaysStore}
+use Rattle.hac_top.specs.Run.{Outside, PlaysOn, PlaysStore, RunsAnd}
 use Rattle.hac_top.specs.declared.status.Status.{Status}
 use Rattle.hac_top.specs.declared.status.Status.TheVariants.{Done, SomeRefused, WriteFault, Memory}
 
@@ -104,3 +104,13 @@ pub record MakesStore {D : Type 0} (seen : D → Option (List ℕ)) (image : D �
   pub unread : is_read_fault status ≡ false
   pub wrote : ReportsFault (is_write_fault status) before.faults after.faults
   pub passed : (status ≡ WriteFault → ⊥) → before.held_back ≡ 0 → after.held_back ≡ 0
+
+-- What is said of a run whose script is drawn, which its own devices were for `own` to `own_after`, and so ended: it runs
+-- on them as any run does, and then it tells what the script left, with this status.
+abbrev pub RunsMade : {D : Type 0} (seen : D → Option (List ℕ)) (image : D → List ℕ → Type 0)
+    (moment : D → ℕ) (image_since : D → ℕ → List ℕ → Type 0) (faults : D → ℕ) (old new : D)
+    (spaces left : SpacesSeen) (asked : Options) (premise : Type 0) (status : Status) (before after : SinkSeen)
+    (played : Status) (own own_after : Outside) → Type 0
+RunsMade seen image moment image_since faults old new spaces left asked premise status before after played own own_after =
+    RunsAnd seen image moment image_since faults old new spaces left asked premise own own_after played
+    (λ given setting script. Tells played status (left_by setting (play given setting script)).state before after)
