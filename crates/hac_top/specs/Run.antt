@@ -48,10 +48,11 @@ usage_line = ended (codes "usage: hac [--new] [--tick N] [--make NUMBER] STORE [
 abbrev pub AppendsSome : Option (List ℕ) → Option (List ℕ) → List ℕ → Type 0
 AppendsSome old new bytes = (n : ℕ) × Appends old new (take n bytes)
 
--- words are refused: nothing is read, and the usage is written or the sink fails, unless memory runs out
+-- words are refused: nothing is read or asked, and the usage is written or the sink fails, unless memory runs out
 pub record RefusesWords (status : Status) (before after : Outside) : Type 0 where
   pub status_is : (status ≡ Usage) ⊎ ((status ≡ WriteFault) ⊎ (status ≡ Memory))
   pub unread : after.source ≡ before.source
+  pub unasked : after.probes ≡ before.probes
   pub usage : status ≡ Usage → Appends before.sink.written after.sink.written usage_line
   pub some : AppendsSome before.sink.written after.sink.written usage_line
 

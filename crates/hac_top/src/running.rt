@@ -73,7 +73,8 @@ pub fn run<S: Source, K: Sink, D: Disk, P: Spaces, L: Ledger>(
     ensures spaces { IfSome (options (map string_bytes words.now))
         (λ asked. LeavesSpaces result asked.spaces (P.seen spaces.old) (P.seen spaces.new)) }
     ensures bad_space { is_bad_space result ≡ true →
-        (input.new ≡ input.old) × (output.new ≡ output.old) × (disk.new ≡ disk.old) }
+        (input.new ≡ input.old) × (output.new ≡ output.old) × (disk.new ≡ disk.old) ×
+        (probes.new ≡ probes.old) }
 
     // The replies are those of the tree that the store held, given the documents of the spaces and
     // the faults that its commands met. A crash at any moment leaves that tree after some of the
