@@ -20,11 +20,13 @@ use Rattle.hac_model.proofs.PlayLemmas.{apply_all-append, stored-all}
 use Rattle.hac_outside.specs.Seen.{SinkSeen}
 use Rattle.hac_store.specs.Stores.{Bears, Seen, Stands}
 use Rattle.hac_store.proofs.PutLemmas.{stands-each}
+use Rattle.hac_store.specs.declared.fault.StoreFault.{StoreFault}
+use Rattle.hac_store.specs.declared.fault.StoreFault.TheVariants as fault
 use Rattle.hac_top.specs.Asking.{given_by}
 use Rattle.hac_top.specs.Crashes.{Holds, IsTreeAfter, IsTreeOfAnswered}
-use Rattle.hac_top.specs.Ends.{is_disk_fault}
+use Rattle.hac_top.specs.Ends.{is_disk_fault, store_status}
 use Rattle.hac_top.specs.Replies.{CutsWriting, StopsWriting, WritesAll}
-use Rattle.hac_top.specs.Storing.{AnswersItems, AnswersLine, AreTurns, IsBare, IsTurnOf, StopsAnswer, StopsCommand, Stores, StoresItem, StoresSteps, StoresTurn}
+use Rattle.hac_top.specs.Storing.{AnswersItems, AnswersLine, AreTurns, IsBare, IsTurnOf, StopsAnswer, StopsCommand, StopsSteps, Stores, StoresItem, StoresSteps, StoresTurn}
 use Rattle.hac_top.specs.Ticking.{command_events, told_turn}
 use Rattle.hac_model.specs.Script.Printed.{text}
 use Rattle.hac_top.specs.TakenLines.{items_of_piece}
@@ -145,10 +147,9 @@ module _ {D : Type 0} {seen : D → Option (List ℕ)} {image : D → List ℕ �
 
   module _ (old new : D) (store after : Seen) (tick : ℕ) (reply : Reply) (sink sink_after : SinkSeen) (told : WritesAll sink sink_after (turns_text (told_turn tick store.setting reply ∷ []))) where
     -- all steps were stored
-    pub steps-end : (result : Result (Unit {0}) Status) → StoresSteps seen image moment image_since attached faults old new store after (steps_behind tick store.setting) result →
-        OnOk result (AnswersLine seen image moment image_since attached faults old new store after sink sink_after (told_turn tick store.setting reply ∷ []))
-    steps-end (Err status) went = tt
-    steps-end (Ok done) went =
+    pub steps-end : StoresSteps seen image moment image_since attached faults old new store after (steps_behind tick store.setting) (Ok tt) →
+        AnswersLine seen image moment image_since attached faults old new store after sink sink_after (told_turn tick store.setting reply ∷ [])
+    steps-end went =
         record {
           replies = told;
           setting = went.ok.setting;
@@ -159,20 +160,24 @@ module _ {D : Type 0} {seen : D → Option (List ℕ)} {image : D → List ℕ �
         }
 
     -- or some
-    pub steps-stop : ((disk : D) (t : ℕ) (c : List ℕ) → t ≤ moment disk → image disk c → image_since disk t c) → (result : Result (Unit {0}) Status) →
-        StoresSteps seen image moment image_since attached faults old new store after (steps_behind tick store.setting) result →
-        IfErr result (StopsAnswer seen image moment image_since attached faults old new store.setting sink sink_after (told_turn tick store.setting reply ∷ []))
-    steps-stop counts_now (Ok done) went = tt
-    steps-stop counts_now (Err status) went =
+    pub steps-stop : ((disk : D) (t : ℕ) (c : List ℕ) → t ≤ moment disk → image disk c → image_since disk t c) → (reason : StoreFault) →
+        StoresSteps seen image moment image_since attached faults old new store after (steps_behind tick store.setting) (Err reason) →
+        StopsAnswer seen image moment image_since attached faults old new store.setting sink sink_after (told_turn tick store.setting reply ∷ []) (store_status reason)
+    steps-stop counts_now reason went =
         inr (record {
-          why = went.err;
+          why = stops reason went.err;
           replies = told;
           left = λ stands c left.
               let run = went.stores.moments stands in
               holds-weaker (IsTreeAfter (stored store.setting.state) (steps_behind tick store.setting)) (IsTreeOfAnswered (stored store.setting.state) (told_turn tick store.setting reply ∷ []) 1) c (some-steps tick store.setting reply)
               (run.each c (counts_now new (moment old) c run.later left));
-          stores = stores-same old new store.setting (steps_behind tick store.setting) (all_events (told_turn tick store.setting reply ∷ [])) (is_disk_fault status) (sym (told-events tick store.setting reply)) went.stores;
+          stores = stores-same old new store.setting (steps_behind tick store.setting) (all_events (told_turn tick store.setting reply ∷ [])) (is_disk_fault (store_status reason)) (sym (told-events tick store.setting reply)) went.stores;
         })
+      where
+        stops : (reason : StoreFault) → StopsSteps reason → StopsCommand (store_status reason)
+        stops fault.Disk why = tt
+        stops fault.Memory why = tt
+        stops other why = absurd why
 
   -- A command, and its reply with the steps behind it.
 

@@ -23,7 +23,6 @@ use Rattle.hac_store.proofs.PutLemmas.{stands-each}
 use Rattle.hac_top.specs.Crashes.{Holds, IsTreeAfter}
 use Rattle.hac_store.specs.Checkpointing.{Checkpoints, HoldsState}
 use Rattle.hac_top.specs.Deciding.{saved_turn, saving_turn, standing_turn, storing_turn, turn_with}
-use Rattle.hac_top.specs.Ends.{store_status}
 use Rattle.hac_top.specs.Storing.{Stores, StoresSteps, StoresTurn, storing_reply}
 use Rattle.hac_top.specs.declared.status.Status.TheVariants.{Memory}
 use Rattle.std.proofs.lemmas.Bool.Decides.{nat_tests}
@@ -386,10 +385,10 @@ module _ {D : Type 0} {seen : D → Option (List ℕ)} {image : D → List ℕ �
   stores-due old new setting count due failed room is stores =
       subst (λ (es : List Event). Stores seen image moment image_since attached faults old new setting es failed) (turn-events setting (steps count) room ∙ sym is) stores
 
-  -- all that are due were stored
-  pub due-stored : {old new : D} {before after : Seen} (count : ℕ) (due : List Event) → have_room before.setting (steps count) ≡ true → due ≡ steps count →
-      StoresTurn seen image moment image_since attached faults old new before after (storing_turn before.setting (steps count)) (storing_reply (Ok tt)) → StoresSteps seen image moment image_since attached faults old new before after due (Ok tt)
-  due-stored {old} {new} {before} {after} count due room is went =
+  -- all that are due were stored; or the disk failed or memory ran out, as there is room for all
+  pub due-stored : {old new : D} {before after : Seen} (count : ℕ) (due : List Event) → have_room before.setting (steps count) ≡ true → due ≡ steps count → (result : Result (Unit {0}) StoreFault) →
+      StoresTurn seen image moment image_since attached faults old new before after (storing_turn before.setting (steps count)) (storing_reply result) → StoresSteps seen image moment image_since attached faults old new before after due result
+  due-stored {old} {new} {before} {after} count due room is (Ok done) went =
       let turn = storing-turn before.setting (steps count) true room in
       record {
         ok = record {
@@ -401,15 +400,10 @@ module _ {D : Type 0} {seen : D → Option (List ℕ)} {image : D → List ℕ �
         err = tt;
         stores = stores-due old new before.setting count due false room is went.stores;
       }
-
-  -- or the disk failed or memory ran out, as there is room for all
-  pub due-stopped : {old new : D} {before after : Seen} (count : ℕ) (due : List Event) → have_room before.setting (steps count) ≡ true → due ≡ steps count → (reason : StoreFault) →
-      StoresTurn seen image moment image_since attached faults old new before after (storing_turn before.setting (steps count)) (storing_reply (Err reason)) →
-      StoresSteps seen image moment image_since attached faults old new before after due (Err (store_status reason))
-  due-stopped {old} {new} {before} {after} count due room is fault.Full went =
+  due-stored {old} {new} {before} {after} count due room is (Err fault.Full) went =
       let never : Refused (Limit Store) ≡ Lines [] = went.ok.reply_is ∙ ap (λ (t : Turn). t.reply) (storing-turn before.setting (steps count) true room) in
       absurd cc
-  due-stopped {old} {new} {before} {after} count due room is fault.Disk went = record { ok = tt; err = tt; stores = stores-due old new before.setting count due true room is went.stores }
-  due-stopped {old} {new} {before} {after} count due room is fault.Memory went = record { ok = tt; err = tt; stores = stores-due old new before.setting count due false room is went.stores }
-  due-stopped {old} {new} {before} {after} count due room is (fault.NotStore at) went = absurd went.err
-  due-stopped {old} {new} {before} {after} count due room is fault.AlreadyStore went = absurd went.err
+  due-stored {old} {new} {before} {after} count due room is (Err fault.Disk) went = record { ok = tt; err = tt; stores = stores-due old new before.setting count due true room is went.stores }
+  due-stored {old} {new} {before} {after} count due room is (Err fault.Memory) went = record { ok = tt; err = tt; stores = stores-due old new before.setting count due false room is went.stores }
+  due-stored {old} {new} {before} {after} count due room is (Err (fault.NotStore at)) went = absurd went.err
+  due-stored {old} {new} {before} {after} count due room is (Err fault.AlreadyStore) went = absurd went.err

@@ -14,7 +14,7 @@ ghost use Rattle.hac_top.specs.TakenLines.{items_of_taken};
 ghost use Rattle.hac_top.specs.Replies.{StopsWriting, WritesAll};
 ghost use Rattle.hac_top.specs.Ticking.{told_turn};
 
-use crate::status::Status;
+use crate::status::{Status, store_status};
 use crate::storing::store_line;
 use crate::taking::TakenLine;
 use crate::ticking::tick;
@@ -128,7 +128,10 @@ impl Player {
             (steps_behind self.old.tick self.old.store.setting) }
     {
         self.write_reply(output, reply)?;
-        tick(&mut self.store, disk, self.tick, probes)
+        match tick(&mut self.store, disk, self.tick, probes) {
+            Ok(()) => Ok(()),
+            Err(fault) => Err(store_status(fault)),
+        }
     }
 
     /// Writes a reply, and flushes it.
