@@ -18,10 +18,11 @@ use Rattle.hac_top.specs.Ends.{IsFinished, IsOpenStatus, end_status, finished_st
 use Rattle.hac_top.specs.Making.{IfMakes, Makes, MakesStore, PlaysMade, RunsMade, Tells, TellsEnd, TellsLeft, counts_text}
 use Rattle.hac_top.specs.Replies.{StopsWriting, WritesAll}
 use Rattle.hac_top.specs.Run.{Ends, Outside, PlaysOn, outside}
+use Rattle.hac_top.specs.Storing.{IsUsable}
 use Rattle.hac_top.specs.declared.status.Status.{Status}
 use Rattle.hac_top.specs.declared.status.Status.TheVariants.{Done, SomeRefused, WriteFault, Memory}
 use Rattle.hac_disk.specs.Contents.{IsSettled}
-use Rattle.hac_store.specs.Stores.{Bears, Seen, Stands}
+use Rattle.hac_store.specs.Stores.{Seen, Stands}
 use Rattle.hac_top.proofs.GoesOn.{fresh_reader}
 use Rattle.hac_top.proofs.LineLemmas.{on-stop, runs-begin, stops-unread}
 use Rattle.hac_top.proofs.OpenedLemmas.{Opening, ran-opened-with, ran-unopened}
@@ -146,25 +147,27 @@ module _ {D : Type 0} {seen : D → Option (List ℕ)} {image : D → List ℕ �
       PlaysOn seen image moment image_since attached faults old new tick setting (outside (seen_of_script first) seen_of_nothing probes) (outside (seen_of_script last) seen_of_nothing probes_now) spaces left result kept →
       PlaysMade seen image moment image_since attached faults old new tick setting number spaces left probes probes_now result kept
   made-by {old} {new} {tick} {setting} {number} {spaces} {left} {probes} {probes_now} {result} {kept} first last is on = record {
-    own = outside (seen_of_script first) seen_of_nothing probes;
-    own_after = outside (seen_of_script last) seen_of_nothing probes_now;
-    script_is = ap (λ (bytes : List ℕ). Some bytes) is;
-    reads = refl;
-    writes = refl;
-    begins = refl;
-    asks = omega arith;
+    own = record {
+      before = outside (seen_of_script first) seen_of_nothing probes;
+      after = outside (seen_of_script last) seen_of_nothing probes_now;
+      script_is = ap (λ (bytes : List ℕ). Some bytes) is;
+      reads = refl;
+      writes = refl;
+      begins = refl;
+      asks = omega arith;
+    };
     unread = no-fault (is_read_fault (end_status result)) 0 0 on.plays.ends.reads refl never-rose;
     unwritten = no-fault (is_write_fault (end_status result)) 0 0 on.plays.ends.writes refl never-rose;
     on = on;
   }
 
   -- there was no memory for the script
-  pub made-none : ((disk : D) (c : List ℕ) → image_since disk (moment disk) c → image disk c) → (disk : D) (tick number probes : ℕ) (spaces : SpacesSeen) (store : Seen) (refused : Bool) → refused ≡ false → store.broken ≡ false → Bears (seen disk) store →
+  pub made-none : ((disk : D) (c : List ℕ) → image_since disk (moment disk) c → image disk c) → (disk : D) (tick number probes : ℕ) (spaces : SpacesSeen) (store : Seen) (refused : Bool) → refused ≡ false → IsUsable (seen disk) store →
       PlaysMade seen image moment image_since attached faults disk disk tick store.setting number spaces spaces probes probes (Err Memory) store.setting
-  made-none only_now disk tick number probes spaces store refused begun intact place =
+  made-none only_now disk tick number probes spaces store refused begun usable =
       let first : ScriptLeft = record { left = generated number; ended = false } in
       made-by first first refl
-      (on-stop (runs-begin only_now disk tick (own_outside number probes) spaces fresh_reader store refused refl refl begun intact place) (stops-unread (seen_of_script first)))
+      (on-stop (runs-begin only_now disk tick (own_outside number probes) spaces fresh_reader store refused refl refl begun usable) (stops-unread (seen_of_script first)))
 
   -- and then what it left was told
   pub makes-store : {old new : D} {tick : ℕ} {setting : Setting} {number : ℕ} {spaces left : SpacesSeen} {probes mid now : ℕ} {played : Result Bool Status} (told : Result Bool Status) {kept : Setting} {before after : SinkSeen} →
@@ -173,15 +176,17 @@ module _ {D : Type 0} {seen : D → Option (List ℕ)} {image : D → List ℕ �
   makes-store {old} {new} {tick} {setting} {number} {spaces} {left} {probes} {mid} {now} {played} told {kept} {before} {after} made tells few =
       record {
         played = end_status played;
-        own = made.own;
-        own_after = made.own_after;
-        script_is = made.script_is;
-        reads = made.reads;
-        writes = made.writes;
-        begins = made.begins;
-        asks = omega (arith, few, made.asks);
+        own = record {
+          before = made.own.before;
+          after = made.own.after;
+          script_is = made.own.script_is;
+          reads = made.own.reads;
+          writes = made.own.writes;
+          begins = made.own.begins;
+          asks = omega (arith, few, made.own.asks);
+        };
         plays = made.on.plays;
-        tells = of spaces.contents made.own.source.left made.script_is played made.on.leaves made.on.stops tells;
+        tells = of spaces.contents made.own.before.source.left made.own.script_is played made.on.leaves made.on.stops tells;
         opened = ends.opened;
         reported = subst (λ (b : Bool). ReportsFault b (faults old) (faults new)) (sym ends.disk) made.on.plays.reported;
         unread = ends.unread;
@@ -216,18 +221,7 @@ unattached-unfinished other un finished = finished
 
 -- the same of it where more is known
 pub makes-given : {number : ℕ} {before after : Outside} (P R : Status → Outside → Outside → Type 0) → ((played : Status) (own own_after : Outside) → P played own own_after → R played own own_after) → Makes number before after P → Makes number before after R
-makes-given P R then_r makes = record {
-  played = makes.played;
-  own = makes.own;
-  own_after = makes.own_after;
-  script_is = makes.script_is;
-  reads = makes.reads;
-  writes = makes.writes;
-  unread = makes.unread;
-  begins = makes.begins;
-  asks = makes.asks;
-  says = then_r makes.played makes.own makes.own_after makes.says;
-}
+makes-given P R then_r makes = record { played = makes.played; own = makes.own; unread = makes.unread; says = then_r makes.played makes.own.before makes.own.after makes.says }
 
 pub makes-each : (make : Option ℕ) (P R : ℕ → Type 0) → ((number : ℕ) → P number → R number) → IfSome make P → IfSome make R
 makes-each None P R then_r made = search rules
@@ -245,14 +239,8 @@ module _ {D : Type 0} (seen : D → Option (List ℕ)) (image : D → List ℕ �
   makes-none asked old new before after spaces left premise status number unread ran =
       record {
         played = status;
-        own = own_outside number before.probes;
-        own_after = own_outside number after.probes;
-        script_is = refl;
-        reads = refl;
-        writes = refl;
+        own = record { before = own_outside number before.probes; after = own_outside number after.probes; script_is = refl; reads = refl; writes = refl; begins = refl; asks = omega arith };
         unread = unread;
-        begins = refl;
-        asks = omega arith;
         says = ran;
       }
 
@@ -265,17 +253,19 @@ module _ {D : Type 0} (seen : D → Option (List ℕ)) (image : D → List ℕ �
   makes-opened counts_now asked old mid new setting before after spaces left status number mid_probes made quiet unread is few stands opening =
       record {
         played = made.played;
-        own = record made.own { probes = before.probes };
-        own_after = made.own_after;
-        script_is = made.script_is;
-        reads = made.reads;
-        writes = made.writes;
+        own = record {
+          before = record made.own.before { probes = before.probes };
+          after = made.own.after;
+          script_is = made.own.script_is;
+          reads = made.own.reads;
+          writes = made.own.writes;
+          begins = refl;
+          asks = made.own.asks;
+        };
         unread = unread;
-        begins = refl;
-        asks = made.asks;
         says =
-            ran-opened-with seen image moment image_since attached faults counts_now asked.fresh asked.tick (IsSettled (seen old) (image old)) old mid new setting made.own made.own_after before.probes spaces left made.played made.plays quiet
-            (λ given z script. Tells made.played status (left_by z (play given z script)).state before.sink after.sink) (seen old) is (subst (λ (n : ℕ). IfSome (seen old) (λ f. n ≤ before.probes + loading f)) (sym made.begins) few) stands opening (tells spaces.contents made.own.source.left made.script_is made.tells);
+            ran-opened-with seen image moment image_since attached faults counts_now asked.fresh asked.tick (IsSettled (seen old) (image old)) old mid new setting made.own.before made.own.after before.probes spaces left made.played made.plays quiet
+            (λ given z script. Tells made.played status (left_by z (play given z script)).state before.sink after.sink) (seen old) is (subst (λ (n : ℕ). IfSome (seen old) (λ f. n ≤ before.probes + loading f)) (sym made.own.begins) few) stands opening (tells spaces.contents made.own.before.source.left made.own.script_is made.tells);
       }
     where
       tells : (o : Option Contents) (script : Option (List ℕ)) → script ≡ Some (generated number) →

@@ -90,7 +90,7 @@ module _ {D : Type 0} {seen : D → Option (List ℕ)} {image : D → List ℕ �
   -- a reply without events
   pub answers-only : (disk : D) (store : Seen) (reply : Reply) → Bears (seen disk) store → StoresTurn seen image moment image_since attached faults disk disk store store (turn_with store.setting reply []) (Ok reply)
   answers-only disk store reply place =
-      record { ok = record { reply_is = refl; setting = refl; intact = refl; place = place; stands = λ stands. stands }; err = tt; stores = stores-nothing disk store.setting [] }
+      record { ok = record { reply_is = refl; on = record { setting = refl; intact = refl; place = place; stands = λ stands. stands } }; err = tt; stores = stores-nothing disk store.setting [] }
 
   -- a session moves, and what is stored stays
   pub moves-session : (disk : D) (store now : Seen) (event : Event) → is_stored event ≡ false → now ≡ record store { setting = unstored_after store.setting event } → Bears (seen disk) store →
@@ -100,11 +100,13 @@ module _ {D : Type 0} {seen : D → Option (List ℕ)} {image : D → List ℕ �
       record {
         ok = record {
           reply_is = refl;
-          setting = ap (λ (z : Seen). z.setting) is;
-          intact = ap (λ (z : Seen). z.broken) is;
-          place = subst (λ (z : Seen). Bears (seen disk) z) (sym is) place;
-          stands = λ stands.
-              subst (λ (z : Seen). Stands (seen disk) (image disk) z.setting) (sym is) (stands-same (seen disk) (image disk) store.setting (unstored_after store.setting event) kept stands);
+          on = record {
+            setting = ap (λ (z : Seen). z.setting) is;
+            intact = ap (λ (z : Seen). z.broken) is;
+            place = subst (λ (z : Seen). Bears (seen disk) z) (sym is) place;
+            stands = λ stands.
+                subst (λ (z : Seen). Stands (seen disk) (image disk) z.setting) (sym is) (stands-same (seen disk) (image disk) store.setting (unstored_after store.setting event) kept stands);
+          };
         };
         err = tt;
         stores = stores-nothing disk store.setting [];
@@ -141,10 +143,12 @@ module _ {D : Type 0} {seen : D → Option (List ℕ)} {image : D → List ℕ �
         record {
           ok = record {
             reply_is = ap (λ (t : Turn). t.reply) (sym turn);
-            setting = ap (λ (z : Seen). z.setting) went.ends.store ∙ ap (λ (t : Turn). t.after) (sym turn);
-            intact = ap (λ (z : Seen). z.broken) went.ends.store;
-            place = went.ends.place;
-            stands = went.stands;
+            on = record {
+              setting = ap (λ (z : Seen). z.setting) went.ends.store ∙ ap (λ (t : Turn). t.after) (sym turn);
+              intact = ap (λ (z : Seen). z.broken) went.ends.store;
+              place = went.ends.place;
+              stands = went.stands;
+            };
           };
           err = tt;
           stores = once old new before events false all went.ends.room went.moments went.names went.reported;
@@ -184,10 +188,12 @@ module _ {D : Type 0} {seen : D → Option (List ℕ)} {image : D → List ℕ �
         record {
           ok = record {
             reply_is = ap (λ (t : Turn). t.reply) (sym turn);
-            setting = ap (λ (z : Seen). z.setting) made.store ∙ ap (λ (t : Turn). t.after) (sym turn);
-            intact = ap (λ (z : Seen). z.broken) made.store;
-            place = made.place;
-            stands = went.stands;
+            on = record {
+              setting = ap (λ (z : Seen). z.setting) made.store ∙ ap (λ (t : Turn). t.after) (sym turn);
+              intact = ap (λ (z : Seen). z.broken) made.store;
+              place = made.place;
+              stands = went.stands;
+            };
           };
           err = tt;
           stores = holding before (all_events (saving_turn before.setting ∷ [])) false went.moments went.names went.reported;
@@ -326,10 +332,12 @@ module _ {D : Type 0} {seen : D → Option (List ℕ)} {image : D → List ℕ �
         record {
           ok = record {
             reply_is = ap (λ (t : Turn). t.reply) (sym turn);
-            setting = ap (λ (z : Seen). z.setting) was.store_is ∙ ap (λ (n : ℕ). after_events first.setting (steps n)) all ∙ ap (λ (t : Turn). t.after) (sym turn);
-            intact = ap (λ (z : Seen). z.broken) was.store_is;
-            place = was.place;
-            stands = was.stands;
+            on = record {
+              setting = ap (λ (z : Seen). z.setting) was.store_is ∙ ap (λ (n : ℕ). after_events first.setting (steps n)) all ∙ ap (λ (t : Turn). t.after) (sym turn);
+              intact = ap (λ (z : Seen). z.broken) was.store_is;
+              place = was.place;
+              stands = was.stands;
+            };
           };
           err = tt;
           stores = record { moments = was.moments; names = was.names; reported = was.quiet };
@@ -392,10 +400,10 @@ module _ {D : Type 0} {seen : D → Option (List ℕ)} {image : D → List ℕ �
       let turn = storing-turn before.setting (steps count) true room in
       record {
         ok = record {
-          setting = went.ok.setting ∙ ap (λ (t : Turn). t.after) turn ∙ ap (after_events before.setting) (sym is);
-          intact = went.ok.intact;
-          place = went.ok.place;
-          stands = went.ok.stands;
+          setting = went.ok.on.setting ∙ ap (λ (t : Turn). t.after) turn ∙ ap (after_events before.setting) (sym is);
+          intact = went.ok.on.intact;
+          place = went.ok.on.place;
+          stands = went.ok.on.stands;
         };
         err = tt;
         stores = stores-due old new before.setting count due false room is went.stores;

@@ -56,10 +56,16 @@ StopsCommand DiskFault = ⊤
 StopsCommand Memory = ⊤
 StopsCommand other = ⊥
 
--- the store has gone on by these events, which are stored
+-- the store can go on: no write of it failed, and the disk bears it
+pub record IsUsable (seen : Option (List ℕ)) (store : Seen) : Type 0 where
+  pub intact : store.broken ≡ false
+  pub place : Bears seen store
+
+-- The store has gone on to this setting. It can go on as before, and if the disk stood for what it was, the disk stands
+-- for what it is.
 pub record HasGoneOn {D : Type 0} (seen : D → Option (List ℕ)) (image : D → List ℕ → Type 0) (old new : D)
-    (before after : Seen) (events : List Event) : Type 0 where
-  pub setting : after.setting ≡ after_events before.setting events
+    (before after : Seen) (setting : Setting) : Type 0 where
+  pub setting : after.setting ≡ setting
   pub intact : after.broken ≡ before.broken
   pub place : Bears (seen new) after
   pub stands : Stands (seen old) (image old) before.setting → Stands (seen new) (image new) after.setting
@@ -68,10 +74,7 @@ pub record HasGoneOn {D : Type 0} (seen : D → Option (List ℕ)) (image : D �
 pub record HasStored {D : Type 0} (seen : D → Option (List ℕ)) (image : D → List ℕ → Type 0) (old new : D)
     (before after : Seen) (turn : Turn) (reply : Reply) : Type 0 where
   pub reply_is : reply ≡ turn.reply
-  pub setting : after.setting ≡ turn.after
-  pub intact : after.broken ≡ before.broken
-  pub place : Bears (seen new) after
-  pub stands : Stands (seen old) (image old) before.setting → Stands (seen new) (image new) after.setting
+  pub on : HasGoneOn seen image old new before after turn.after
 
 -- what storing a turn does
 pub record StoresTurn {D : Type 0} (seen : D → Option (List ℕ)) (image : D → List ℕ → Type 0)
@@ -88,10 +91,7 @@ pub record AnswersLine {D : Type 0} (seen : D → Option (List ℕ)) (image : D 
     (attached : D → Option (List (List ℕ × Bool))) (faults : D → ℕ) (old new : D)
     (before after : Seen) (sink sink_after : SinkSeen) (answered : List Turn) : Type 0 where
   pub replies : WritesAll sink sink_after (turns_text answered)
-  pub setting : after.setting ≡ left_by before.setting answered
-  pub intact : after.broken ≡ before.broken
-  pub place : Bears (seen new) after
-  pub stands : Stands (seen old) (image old) before.setting → Stands (seen new) (image new) after.setting
+  pub on : HasGoneOn seen image old new before after (left_by before.setting answered)
   pub stores : Stores seen image moment image_since attached faults old new before.setting (all_events answered) false
 
 -- What storing the index steps behind a command does: all of them are stored, or the disk failed or memory ran out.
@@ -99,7 +99,7 @@ pub record StoresSteps {D : Type 0} (seen : D → Option (List ℕ)) (image : D 
     (moment : D → ℕ) (image_since : D → ℕ → List ℕ → Type 0)
     (attached : D → Option (List (List ℕ × Bool))) (faults : D → ℕ) (old new : D)
     (before after : Seen) (steps : List Event) (result : Result Unit StoreFault) : Type 0 where
-  pub ok : OnOk result (HasGoneOn seen image old new before after steps)
+  pub ok : OnOk result (HasGoneOn seen image old new before after (after_events before.setting steps))
   pub err : IfErr result StopsSteps
   pub stores : Stores seen image moment image_since attached faults old new before.setting steps (met_disk_fault result)
 

@@ -3,8 +3,8 @@ ghost use Rattle.std.specs.Prelude.{◌≡◌, ◌≤◌, false, IfOk, codes};
 ghost use Rattle.hac_model.specs.Run.Given.{no_answers};
 ghost use Rattle.hac_model.specs.declared.commands.Command.TheVariants as command;
 ghost use Rattle.hac_model.specs.declared.replies.Deny.TheVariants as denied;
-ghost use Rattle.hac_store.specs.Stores.{Bears};
 ghost use Rattle.hac_top.specs.Making.{MakesStore, PlaysMade, TellsLeft, counts_reply};
+ghost use Rattle.hac_top.specs.Storing.{IsUsable};
 
 use crate::answering::Player;
 use crate::devices::{ScriptSource, Unwritten};
@@ -31,8 +31,7 @@ pub fn make_store<K: Sink, D: Disk, P: Spaces, L: Ledger>(
     spaces: &mut P,
     probes: &mut Steps<L>,
 ) -> Status
-    requires intact { store.broken ≡ false }
-    requires place { Bears (D.seen disk.old) store }
+    requires { IsUsable (D.seen disk.old) store }
     ensures { MakesStore D.seen D.image D.moment D.image_since D.attached D.faults disk.old disk.new
         tick store.setting number (K.seen output.old) (K.seen output.new) (P.seen spaces.old)
         (P.seen spaces.new) probes.old probes.new result }
@@ -59,8 +58,7 @@ fn play_made<D: Disk, P: Spaces, L: Ledger>(
     probes: &mut Steps<L>,
 ) -> Result<bool, Status>
     requires begun { player.old.refused ≡ false }
-    requires intact { player.old.store.broken ≡ false }
-    requires place { Bears (D.seen disk.old) player.old.store }
+    requires usable { IsUsable (D.seen disk.old) player.old.store }
     ensures { PlaysMade D.seen D.image D.moment D.image_since D.attached D.faults disk.old disk.new
         player.old.tick player.old.store.setting number (P.seen spaces.old) (P.seen spaces.new)
         probes.old probes.new result player.new.store.setting }

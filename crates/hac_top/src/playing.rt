@@ -1,8 +1,8 @@
 //! Playing: the script is taken line by line, and each line is answered before the next is taken.
 ghost use Rattle.std.specs.Prelude.{◌≡◌, false};
-ghost use Rattle.hac_store.specs.Stores.{Bears};
 ghost use Rattle.hac_top.specs.Ends.{end_status};
 ghost use Rattle.hac_top.specs.Run.{PlaysOn, PlaysStore, outside};
+ghost use Rattle.hac_top.specs.Storing.{IsUsable};
 
 use crate::answering::Player;
 use crate::status::Status;
@@ -27,8 +27,7 @@ pub fn play_store<S: Source, K: Sink, D: Disk, P: Spaces, L: Ledger>(
     probes: &mut Steps<L>,
 ) -> Status
     requires source { (S.seen input.old).ended ≡ false }
-    requires intact { store.broken ≡ false }
-    requires place { Bears (D.seen disk.old) store }
+    requires usable { IsUsable (D.seen disk.old) store }
     ensures { PlaysStore D.seen D.image D.moment D.image_since D.attached D.faults disk.old disk.new
         tick store.setting (outside (S.seen input.old) (K.seen output.old) probes.old)
         (outside (S.seen input.new) (K.seen output.new) probes.new) (P.seen spaces.old)
@@ -57,8 +56,7 @@ pub fn play_script<S: Source, K: Sink, D: Disk, P: Spaces, L: Ledger>(
 ) -> Result<bool, Status>
     requires source { (S.seen input.old).ended ≡ false }
     requires begun { player.old.refused ≡ false }
-    requires intact { player.old.store.broken ≡ false }
-    requires place { Bears (D.seen disk.old) player.old.store }
+    requires usable { IsUsable (D.seen disk.old) player.old.store }
     ensures { PlaysOn D.seen D.image D.moment D.image_since D.attached D.faults disk.old disk.new
         player.old.tick player.old.store.setting
         (outside (S.seen input.old) (K.seen output.old) probes.old)

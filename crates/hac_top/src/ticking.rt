@@ -4,8 +4,7 @@ ghost use Rattle.hac_model.specs.Laws.{AllHappen};
 ghost use Rattle.hac_model.specs.Run.Play.{have_room, steps_behind};
 ghost use Rattle.hac_model.specs.Tree.Costs.{costs};
 ghost use Rattle.hac_model.specs.declared.events.Event.TheVariants as event;
-ghost use Rattle.hac_store.specs.Stores.{Bears};
-ghost use Rattle.hac_top.specs.Storing.{StoresSteps};
+ghost use Rattle.hac_top.specs.Storing.{IsUsable, StoresSteps};
 
 use crate::storing::{STEP_BYTES, store_steps};
 use hac_disk::Disk;
@@ -22,8 +21,7 @@ pub fn tick<D: Disk, L: Ledger>(
     most: u64,
     probes: &mut Steps<L>,
 ) -> Result<(), StoreFault>
-    requires intact { store.old.broken ≡ false }
-    requires place { Bears (D.seen disk.old) store.old }
+    requires { IsUsable (D.seen disk.old) store.old }
     ensures stores { StoresSteps D.seen D.image D.moment D.image_since D.attached D.faults disk.old
         disk.new store.old store.new (steps_behind most store.old.setting) result }
     ensures probes { probes.new ≤ probes.old + costs store.old.setting.state
