@@ -18,7 +18,7 @@ ghost use Rattle.hac_top.specs.Run.{RunsFrom, outside, usage_line};
 ghost use Rattle.hac_top.specs.Spaces.{CanAttach, LeavesSpaces};
 ghost use Rattle.command_line.specs.Words.{asked_of};
 
-use crate::answering::write_now;
+use crate::answering::{Player, write_now};
 use crate::attaching::attach_spaces;
 use crate::making::make_store;
 use crate::opening::open_store;
@@ -172,12 +172,19 @@ fn run_store<S: Source, K: Sink, D: Disk, P: Spaces, L: Ledger>(
     ensures disk_faults { ReportsFault (is_disk_fault result) (D.faults disk.old)
         (D.faults disk.new) }
 {
-    let tick = options.tick;
     match open_store(alloc, options, disk, probes) {
-        Ok(store) => match options.make {
-            None => play_store(alloc, store, tick, input, output, disk, spaces, probes),
-            Some(number) => make_store(alloc, store, tick, number, output, disk, spaces, probes),
-        },
+        Ok(store) => {
+            let player = Player {
+                alloc,
+                store,
+                tick: options.tick,
+                refused: false,
+            };
+            match options.make {
+                None => play_store(player, input, output, disk, spaces, probes),
+                Some(number) => make_store(player, number, output, disk, spaces, probes),
+            }
+        }
         Err(status) => status,
     }
 }
