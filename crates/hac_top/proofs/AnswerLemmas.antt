@@ -20,11 +20,13 @@ use Rattle.hac_model.proofs.PlayLemmas.{apply_all-append, stored-all}
 use Rattle.hac_outside.specs.Seen.{SinkSeen}
 use Rattle.hac_store.specs.Stores.{Bears, Seen, Stands}
 use Rattle.hac_store.proofs.PutLemmas.{stands-each}
+use Rattle.hac_store.specs.declared.fault.StoreFault.{StoreFault}
+use Rattle.hac_store.specs.declared.fault.StoreFault.TheVariants as fault
 use Rattle.hac_top.specs.Asking.{given_by}
 use Rattle.hac_top.specs.Crashes.{Holds, IsTreeAfter, IsTreeOfAnswered}
-use Rattle.hac_top.specs.Ends.{is_disk_fault}
+use Rattle.hac_top.specs.Ends.{is_disk_fault, store_status}
 use Rattle.hac_top.specs.Replies.{CutsWriting, StopsWriting, WritesAll}
-use Rattle.hac_top.specs.Storing.{AnswersItems, AnswersLine, AreTurns, IsBare, IsTurnOf, StopsAnswer, StopsCommand, Stores, StoresItem, StoresSteps, StoresTurn}
+use Rattle.hac_top.specs.Storing.{AnswersItems, AnswersLine, AreTurns, IsBare, IsTurnOf, StopsAnswer, StopsCommand, StopsSteps, Stores, StoresItem, StoresSteps, StoresTurn}
 use Rattle.hac_top.specs.Ticking.{command_events, told_turn}
 use Rattle.hac_model.specs.Script.Printed.{text}
 use Rattle.hac_top.specs.TakenLines.{items_of_piece}
@@ -145,34 +147,34 @@ module _ {D : Type 0} {seen : D → Option (List ℕ)} {image : D → List ℕ �
 
   module _ (old new : D) (store after : Seen) (tick : ℕ) (reply : Reply) (sink sink_after : SinkSeen) (told : WritesAll sink sink_after (turns_text (told_turn tick store.setting reply ∷ []))) where
     -- all steps were stored
-    pub steps-end : (result : Result (Unit {0}) Status) → StoresSteps seen image moment image_since attached faults old new store after (steps_behind tick store.setting) result →
-        OnOk result (AnswersLine seen image moment image_since attached faults old new store after sink sink_after (told_turn tick store.setting reply ∷ []))
-    steps-end (Err status) went = tt
-    steps-end (Ok done) went =
+    pub steps-end : StoresSteps seen image moment image_since attached faults old new store after (steps_behind tick store.setting) (Ok tt) →
+        AnswersLine seen image moment image_since attached faults old new store after sink sink_after (told_turn tick store.setting reply ∷ [])
+    steps-end went =
         record {
           replies = told;
-          setting = went.ok.setting;
-          intact = went.ok.intact;
-          place = went.ok.place;
-          stands = went.ok.stands;
+          on = went.ok;
           stores = stores-same old new store.setting (steps_behind tick store.setting) (all_events (told_turn tick store.setting reply ∷ [])) false (sym (told-events tick store.setting reply)) went.stores;
         }
 
     -- or some
-    pub steps-stop : ((disk : D) (t : ℕ) (c : List ℕ) → t ≤ moment disk → image disk c → image_since disk t c) → (result : Result (Unit {0}) Status) →
-        StoresSteps seen image moment image_since attached faults old new store after (steps_behind tick store.setting) result →
-        IfErr result (StopsAnswer seen image moment image_since attached faults old new store.setting sink sink_after (told_turn tick store.setting reply ∷ []))
-    steps-stop counts_now (Ok done) went = tt
-    steps-stop counts_now (Err status) went =
+    pub steps-stop : ((disk : D) (t : ℕ) (c : List ℕ) → t ≤ moment disk → image disk c → image_since disk t c) → (reason : StoreFault) →
+        StoresSteps seen image moment image_since attached faults old new store after (steps_behind tick store.setting) (Err reason) →
+        StopsAnswer seen image moment image_since attached faults old new store.setting sink sink_after (told_turn tick store.setting reply ∷ []) (store_status reason)
+    steps-stop counts_now reason went =
         inr (record {
-          why = went.err;
+          why = stops reason went.err;
           replies = told;
           left = λ stands c left.
               let run = went.stores.moments stands in
               holds-weaker (IsTreeAfter (stored store.setting.state) (steps_behind tick store.setting)) (IsTreeOfAnswered (stored store.setting.state) (told_turn tick store.setting reply ∷ []) 1) c (some-steps tick store.setting reply)
               (run.each c (counts_now new (moment old) c run.later left));
-          stores = stores-same old new store.setting (steps_behind tick store.setting) (all_events (told_turn tick store.setting reply ∷ [])) (is_disk_fault status) (sym (told-events tick store.setting reply)) went.stores;
+          stores = stores-same old new store.setting (steps_behind tick store.setting) (all_events (told_turn tick store.setting reply ∷ [])) (is_disk_fault (store_status reason)) (sym (told-events tick store.setting reply)) went.stores;
         })
+      where
+        stops : (reason : StoreFault) → StopsSteps reason → StopsCommand (store_status reason)
+        stops fault.Disk why = tt
+        stops fault.Memory why = tt
+        stops other why = absurd why
 
   -- A command, and its reply with the steps behind it.
 
@@ -204,24 +206,26 @@ module _ {D : Type 0} {seen : D → Option (List ℕ)} {image : D → List ℕ �
   module _ (old mid new : D) (before store after : Seen) (turn : Turn) (reply : Reply) (sink sink_after : SinkSeen) (tick : ℕ) (went : StoresTurn seen image moment image_since attached faults old mid before store turn (Ok reply))
       (own : all_events (turn ∷ []) ≡ turn.events) (led : stored turn.after.state ≡ apply_all (stored before.setting.state) turn.events) where
     led-on : stored store.setting.state ≡ apply_all (stored before.setting.state) turn.events
-    led-on = ap (λ (z : Setting). stored z.state) went.ok.setting ∙ led
+    led-on = ap (λ (z : Setting). stored z.state) went.ok.on.setting ∙ led
 
     all-events : turn.events ++ all_events (told_turn tick store.setting reply ∷ []) ≡ all_events (ticked tick turn ∷ [])
-    all-events = ap (λ (es : List Event). turn.events ++ es) (told-events tick store.setting reply ∙ ap (steps_behind tick) went.ok.setting) ∙ sym (ticked-events tick turn)
+    all-events = ap (λ (es : List Event). turn.events ++ es) (told-events tick store.setting reply ∙ ap (steps_behind tick) went.ok.on.setting) ∙ sym (ticked-events tick turn)
 
     stores-on : (more : List Event) (failed : Bool) → Stores seen image moment image_since attached faults mid new store.setting more failed → Stores seen image moment image_since attached faults old new before.setting (turn.events ++ more) failed
     stores-on more failed stores =
-        stores-then old mid new before.setting store.setting turn.events more failed (stores-same old mid before.setting (all_events (turn ∷ [])) turn.events false own went.stores) went.ok.stands led-on stores
+        stores-then old mid new before.setting store.setting turn.events more failed (stores-same old mid before.setting (all_events (turn ∷ [])) turn.events false own went.stores) went.ok.on.stands led-on stores
 
     then-told : AnswersLine seen image moment image_since attached faults mid new store after sink sink_after (told_turn tick store.setting reply ∷ []) →
         AnswersLine seen image moment image_since attached faults old new before after sink sink_after (ticked tick turn ∷ [])
     then-told answers =
         record {
           replies = subst (λ (r : Reply). WritesAll sink sink_after (text (r ∷ []))) went.ok.reply_is answers.replies;
-          setting = answers.setting ∙ ap (λ (z : Setting). after_events z (steps_behind tick z)) went.ok.setting;
-          intact = answers.intact ∙ went.ok.intact;
-          place = answers.place;
-          stands = λ stands. answers.stands (went.ok.stands stands);
+          on = record {
+            setting = answers.on.setting ∙ ap (λ (z : Setting). after_events z (steps_behind tick z)) went.ok.on.setting;
+            intact = answers.on.intact ∙ went.ok.on.intact;
+            place = answers.on.place;
+            stands = λ stands. answers.on.stands (went.ok.on.stands stands);
+          };
           stores =
               stores-same old new before.setting (turn.events ++ all_events (told_turn tick store.setting reply ∷ [])) (all_events (ticked tick turn ∷ [])) false all-events
               (stores-on (all_events (told_turn tick store.setting reply ∷ [])) false answers.stores);
@@ -247,7 +251,7 @@ module _ {D : Type 0} {seen : D → Option (List ℕ)} {image : D → List ℕ �
           replies = subst (λ (r : Reply). CutsWriting status sink sink_after (text (r ∷ []))) went.ok.reply_is stop.replies;
           stored = λ write stands c left.
               holds-weaker (λ now. now ≡ stored store.setting.state) (λ now. now ≡ apply_all (stored before.setting.state) (command_events (ticked tick turn ∷ []))) c
-              (λ now is. is ∙ led-on ∙ ap (apply_all (stored before.setting.state)) (sym (append-nil turn.events))) (stop.stored write (went.ok.stands stands) c left);
+              (λ now is. is ∙ led-on ∙ ap (apply_all (stored before.setting.state)) (sym (append-nil turn.events))) (stop.stored write (went.ok.on.stands stands) c left);
           stores = stores-on [] (is_disk_fault status) stop.stores;
         })
     then-stops status (inr stop) =
@@ -256,7 +260,7 @@ module _ {D : Type 0} {seen : D → Option (List ℕ)} {image : D → List ℕ �
           replies = subst (λ (r : Reply). WritesAll sink sink_after (text (r ∷ []))) went.ok.reply_is stop.replies;
           left = λ stands c left.
               holds-weaker (IsTreeOfAnswered (stored store.setting.state) (told_turn tick store.setting reply ∷ []) 1) (IsTreeOfAnswered (stored before.setting.state) (ticked tick turn ∷ []) 1) c told-tree
-              (stop.left (went.ok.stands stands) c left);
+              (stop.left (went.ok.on.stands stands) c left);
           stores =
               stores-same old new before.setting (turn.events ++ all_events (told_turn tick store.setting reply ∷ [])) (all_events (ticked tick turn ∷ [])) (is_disk_fault status) all-events
               (stores-on (all_events (told_turn tick store.setting reply ∷ [])) (is_disk_fault status) stop.stores);
@@ -318,7 +322,7 @@ module _ {D : Type 0} {seen : D → Option (List ℕ)} {image : D → List ℕ �
       where
         all-asks : probes_now ≤ probes + (answering_line before.setting.state item + costs before.setting.state went.turn.events + costs went.turn.after.state (steps_behind tick went.turn.after))
         all-asks =
-            let behind = subst (λ (z : Setting). probes_now ≤ probes_told + costs z.state (steps_behind tick z)) went.stores.ok.setting asks in
+            let behind = subst (λ (z : Setting). probes_now ≤ probes_told + costs z.state (steps_behind tick z)) went.stores.ok.on.setting asks in
             omega (arith, went.asks, behind)
 
   -- A line that is refused by its form asks nothing.
@@ -363,10 +367,7 @@ module _ {D : Type 0} {seen : D → Option (List ℕ)} {image : D → List ℕ �
         refused = sym (or-none was);
         ok = record {
           replies = record { written = appends-nothing sink.written; passed = λ none. none; faults = refl };
-          setting = refl;
-          intact = refl;
-          place = place;
-          stands = λ stands. stands;
+          on = record { setting = refl; intact = refl; place = place; stands = λ stands. stands };
           stores = stores-nothing only_now disk store.setting [];
         };
         err = tt;

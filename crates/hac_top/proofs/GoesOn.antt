@@ -11,11 +11,12 @@ use Rattle.hac_model.specs.Script.{first_items, script, whole}
 use Rattle.hac_model.specs.Tree.Events.{apply_all}
 use Rattle.hac_model.specs.Tree.Sessions.{stored}
 use Rattle.sem_mounts.specs.Seen.{Contents, SpacesSeen}
-use Rattle.hac_store.specs.Stores.{Bears, Seen, Stands}
+use Rattle.hac_store.specs.Stores.{Seen, Stands}
 use Rattle.line_reader.specs.Reading.{IsReaderOf, Reading, pending}
 use Rattle.hac_top.specs.Asking.{HaveAsked, given_by}
 use Rattle.hac_top.specs.Crashes.{Holds, IsTreeAfter}
 use Rattle.hac_top.specs.Run.{Outside, given_after}
+use Rattle.hac_top.specs.Storing.{IsUsable}
 use Rattle.hac_top.specs.TakenLines.{IsLine, LeavesSource}
 
 -- the turns of whole lines, and of one line behind them
@@ -63,8 +64,7 @@ pub record RunsOn {D : Type 0} (seen : D → Option (List ℕ)) (image : D → L
   pub source : LeavesSource false fresh_reader reader before.source now.source
   pub passed : before.sink.held_back ≡ 0 → now.sink.held_back ≡ 0
   pub wrote : now.sink.faults ≡ before.sink.faults
-  pub intact : store.broken ≡ false
-  pub place : Bears (seen disk) store
+  pub usable : IsUsable (seen disk) store
   pub stands : Stands (seen old) (image old) first → Stands (seen disk) (image disk) store.setting
   pub moments : Stands (seen old) (image old) first → LeavesOnly moment image_since old disk (Holds (IsTreeAfter (stored first.state) (all_events answered)))
   pub names : attached disk ≡ attached old

@@ -18,7 +18,7 @@ use Rattle.hac_model.proofs.PlayLemmas.{apply_all-append}
 use Rattle.sem_mounts.specs.Seen.{Contents, SpacesSeen}
 use Rattle.hac_model.specs.Tree.Sessions.{stored}
 use Rattle.hac_model.specs.declared.limits.TheConstants.{SCRIPT_LIMIT}
-use Rattle.hac_store.specs.Stores.{Bears, Seen, Stands}
+use Rattle.hac_store.specs.Stores.{Seen, Stands}
 use Rattle.hac_store.proofs.PutLemmas.{stands-each}
 use Rattle.line_reader.specs.Reading.{Reading, SameTotal, pending}
 use Rattle.line_reader.proofs.ReaderLemmas.{total_on}
@@ -27,7 +27,7 @@ use Rattle.hac_top.specs.Ends.{IsFinished, IsOpenStatus, finished_status, is_dis
 use Rattle.hac_top.specs.Asking.{HaveAsked, faults_after, given_by}
 use Rattle.hac_top.specs.Run.{AnswersBy, Ends, IsTreeOf, Outside, Played, PlaysOn, PlaysStore, given_after, outside}
 use Rattle.hac_top.specs.Ticking.{command_events}
-use Rattle.hac_top.specs.Storing.{AnswersLine, AreTurns, StopsAnswer, StopsBehind, StopsReply, Stores}
+use Rattle.hac_top.specs.Storing.{AnswersLine, AreTurns, IsUsable, StopsAnswer, StopsBehind, StopsReply, Stores}
 use Rattle.hac_top.specs.TakenLines.{GivesFrom, GivesTaken, LeavesSource, StopsIn, StopsLine, StopsTaking, TakesLine, items_of_taken}
 use Rattle.hac_top.specs.declared.status.Status.{Status}
 use Rattle.hac_top.specs.declared.status.Status.TheVariants.{Done, SomeRefused, ReadFault, WriteFault, DiskFault, Memory, TooLong}
@@ -106,8 +106,8 @@ stops-unread source = record { why = tt; stops = stops source.left; goes = λ ot
 module _ {D : Type 0} {seen : D → Option (List ℕ)} {image : D → List ℕ → Type 0} {moment : D → ℕ} {image_since : D → ℕ → List ℕ → Type 0} {attached : D → Option (List (List ℕ × Bool))} {faults : D → ℕ} where
   -- a run begins with a reader that holds nothing
   pub runs-begin : ((disk : D) (c : List ℕ) → image_since disk (moment disk) c → image disk c) → (disk : D) (tick : ℕ) (before : Outside) (spaces : SpacesSeen) (reader : Reading) (store : Seen) (refused : Bool) → reader ≡ fresh_reader → before.source.ended ≡ false → refused ≡ false →
-      store.broken ≡ false → Bears (seen disk) store → RunsOn seen image moment image_since attached faults disk disk tick store.setting before before spaces spaces reader store refused
-  runs-begin only_now disk tick before spaces reader store refused is open_now unrefused intact place =
+      IsUsable (seen disk) store → RunsOn seen image moment image_since attached faults disk disk tick store.setting before before spaces spaces reader store refused
+  runs-begin only_now disk tick before spaces reader store refused is open_now unrefused usable =
       subst (λ (r : Reading). RunsOn seen image moment image_since attached faults disk disk tick store.setting before before spaces spaces r store refused) (sym is)
       (record {
         met = [];
@@ -119,8 +119,7 @@ module _ {D : Type 0} {seen : D → Option (List ℕ)} {image : D → List ℕ �
         source = record { total = total before.source.left; limit = omega arith; reported = refl };
         passed = λ none. none;
         wrote = refl;
-        intact = intact;
-        place = place;
+        usable = usable;
         stands = λ stands. stands;
         moments = λ stands. started moment image_since disk (Holds (IsTreeAfter (stored store.setting.state) [])) (λ c left. held-before store.setting [] c (stands-each (seen disk) (image disk) store.setting stands c (only_now disk c left)));
         names = refl;
@@ -289,16 +288,15 @@ module _ {D : Type 0} {seen : D → Option (List ℕ)} {image : D → List ℕ �
             asked = all-asked;
             answered = was.answered ++ here;
             leads =
-                ap (λ (z : Setting). stored z.state) answers.setting ∙ leads ∙ ap (λ (s : State). apply_all s (all_events here)) was.leads ∙ sym (apply_all-append (all_events was.answered) (all_events here) (stored first.state))
+                ap (λ (z : Setting). stored z.state) answers.on.setting ∙ leads ∙ ap (λ (s : State). apply_all s (all_events here)) was.leads ∙ sym (apply_all-append (all_events was.answered) (all_events here) (stored first.state))
                 ∙ ap (apply_all (stored first.state)) (sym (all_events-append was.answered here));
             goes = goes_by spaces.contents was.goes (subst (λ (o : Option Contents). IfSome o (λ c. AreTurns c more tick store.setting (items_of_taken line) here now.probes probes)) was.asked.stay.contents told);
             reads = takes.reader;
             source = leaves-then false fresh_reader reader next before.source now.source source was.source takes.source;
             passed = λ none. answers.replies.passed (was.passed none);
             wrote = answers.replies.faults ∙ was.wrote;
-            intact = answers.intact ∙ was.intact;
-            place = answers.place;
-            stands = λ stands. answers.stands (was.stands stands);
+            usable = record { intact = answers.on.intact ∙ was.usable.intact; place = answers.on.place };
+            stands = λ stands. answers.on.stands (was.stands stands);
             moments = line-moments new answers.stores.moments;
             names = answers.stores.names ∙ was.names;
             quiet = answers.stores.reported ∙ was.quiet;
@@ -313,7 +311,7 @@ module _ {D : Type 0} {seen : D → Option (List ℕ)} {image : D → List ℕ �
               (λ s q. IsPlayed c (was.met ++ more) tick first s q next.ended after.setting refused_now before (outside source sink probes) (was.answered ++ here))
               before.source.left (pending reader now.source.left) (pending next source.left)
               (λ s p q played gives.
-              subst (λ (z : Setting). IsPlayed c (was.met ++ more) tick first s q next.ended z refused_now before (outside source sink probes) (was.answered ++ here)) (sym answers.setting)
+              subst (λ (z : Setting). IsPlayed c (was.met ++ more) tick first s q next.ended z refused_now before (outside source sink probes) (was.answered ++ here)) (sym answers.on.setting)
               (subst (λ (b : Bool). IsPlayed c (was.met ++ more) tick first s q next.ended (left_by store.setting here) b before (outside source sink probes) (was.answered ++ here)) (sym is)
               (played-next c tick first was.met more s p q store.setting refused before now probes was.answered here (open-played c tick first was.met s p reader.ended store.setting refused before now was.answered played line next.ended q gives)
               line next.ended gives are source sink answers.replies.written)))

@@ -1,6 +1,6 @@
 -- A script that is drawn from a number is played, and what it left is told.
 use Rattle.std.proofs.Common.{◌≡◌, ◌∙◌, ℕ, ◌+◌, Bool, true, false, true≢false, ◌≤◌, List, Option, None, Some, refl, sym, ap, subst, arith, rules}
-use Rattle.std.specs.Prelude.{Result, Ok, Err, IfOk, IfErr, OnOk, is_some}
+use Rattle.std.specs.Prelude.{⊤, Result, Ok, Err, IfOk, IfErr, OnOk, is_some}
 use Rattle.std.specs.Option.{IfSome}
 use Rattle.hac_outside.specs.Causes.{ReportsFault, Rose}
 use Rattle.hac_outside.specs.Seen.{SinkSeen}
@@ -11,22 +11,22 @@ use Rattle.hac_model.specs.declared.states.State.{State}
 use Rattle.hac_store.specs.Held.{held}
 use Rattle.hac_store.specs.Loading.{loading}
 use Rattle.sem_mounts.specs.Seen.{Contents, SpacesSeen}
-use Rattle.hac_top.specs.Asking.{IfTold, given_by}
+use Rattle.hac_top.specs.Asking.{given_by}
 use Rattle.hac_top.specs.Crashes.{IsOpened, StopsOpening, opening_outcome}
 use Rattle.hac_top.specs.Devices.{ScriptLeft, seen_of_nothing, seen_of_script}
 use Rattle.hac_top.specs.Ends.{IsFinished, IsOpenStatus, end_status, finished_status, is_bad_space, is_disk_fault, is_read_fault, is_write_fault}
-use Rattle.hac_top.specs.Making.{IfMakes, Makes, MakesStore, PlaysMade, Tells, TellsEnd, TellsLeft, counts_text}
+use Rattle.hac_top.specs.Making.{IfMakes, Makes, MakesStore, PlaysMade, RunsMade, Tells, TellsEnd, TellsLeft, counts_text}
 use Rattle.hac_top.specs.Replies.{StopsWriting, WritesAll}
-use Rattle.hac_top.specs.Run.{Ends, IfOpened, IsFaultless, Outside, PlaysOn, Ran, once_open, outside}
+use Rattle.hac_top.specs.Run.{Ends, Outside, PlaysOn, outside}
+use Rattle.hac_top.specs.Storing.{IsUsable}
 use Rattle.hac_top.specs.declared.status.Status.{Status}
 use Rattle.hac_top.specs.declared.status.Status.TheVariants.{Done, SomeRefused, WriteFault, Memory}
 use Rattle.hac_disk.specs.Contents.{IsSettled}
-use Rattle.hac_disk.specs.Images.{LeavesOnly}
-use Rattle.hac_store.specs.Stores.{Bears, Seen, Stands}
+use Rattle.hac_store.specs.Stores.{Seen, Stands}
 use Rattle.hac_top.proofs.GoesOn.{fresh_reader}
 use Rattle.hac_top.proofs.LineLemmas.{on-stop, runs-begin, stops-unread}
-use Rattle.hac_top.proofs.OpenedLemmas.{Opening, ran-opened-with, ran-unopened, told-given}
-use Rattle.hac_top.proofs.UnattachedLemmas.{IsUnattached, ran-more, ran-unattached, within-same}
+use Rattle.hac_top.proofs.OpenedLemmas.{Opening, ran-opened-with, ran-unopened}
+use Rattle.hac_top.proofs.UnattachedLemmas.{IsUnattached, ran-given, ran-unattached, within-same}
 
 -- ---- the devices of a drawn script
 
@@ -147,25 +147,27 @@ module _ {D : Type 0} {seen : D → Option (List ℕ)} {image : D → List ℕ �
       PlaysOn seen image moment image_since attached faults old new tick setting (outside (seen_of_script first) seen_of_nothing probes) (outside (seen_of_script last) seen_of_nothing probes_now) spaces left result kept →
       PlaysMade seen image moment image_since attached faults old new tick setting number spaces left probes probes_now result kept
   made-by {old} {new} {tick} {setting} {number} {spaces} {left} {probes} {probes_now} {result} {kept} first last is on = record {
-    own = outside (seen_of_script first) seen_of_nothing probes;
-    own_after = outside (seen_of_script last) seen_of_nothing probes_now;
-    script_is = ap (λ (bytes : List ℕ). Some bytes) is;
-    reads = refl;
-    writes = refl;
-    begins = refl;
-    asks = omega arith;
+    own = record {
+      before = outside (seen_of_script first) seen_of_nothing probes;
+      after = outside (seen_of_script last) seen_of_nothing probes_now;
+      script_is = ap (λ (bytes : List ℕ). Some bytes) is;
+      reads = refl;
+      writes = refl;
+      begins = refl;
+      asks = omega arith;
+    };
     unread = no-fault (is_read_fault (end_status result)) 0 0 on.plays.ends.reads refl never-rose;
     unwritten = no-fault (is_write_fault (end_status result)) 0 0 on.plays.ends.writes refl never-rose;
     on = on;
   }
 
   -- there was no memory for the script
-  pub made-none : ((disk : D) (c : List ℕ) → image_since disk (moment disk) c → image disk c) → (disk : D) (tick number probes : ℕ) (spaces : SpacesSeen) (store : Seen) (refused : Bool) → refused ≡ false → store.broken ≡ false → Bears (seen disk) store →
+  pub made-none : ((disk : D) (c : List ℕ) → image_since disk (moment disk) c → image disk c) → (disk : D) (tick number probes : ℕ) (spaces : SpacesSeen) (store : Seen) (refused : Bool) → refused ≡ false → IsUsable (seen disk) store →
       PlaysMade seen image moment image_since attached faults disk disk tick store.setting number spaces spaces probes probes (Err Memory) store.setting
-  made-none only_now disk tick number probes spaces store refused begun intact place =
+  made-none only_now disk tick number probes spaces store refused begun usable =
       let first : ScriptLeft = record { left = generated number; ended = false } in
       made-by first first refl
-      (on-stop (runs-begin only_now disk tick (own_outside number probes) spaces fresh_reader store refused refl refl begun intact place) (stops-unread (seen_of_script first)))
+      (on-stop (runs-begin only_now disk tick (own_outside number probes) spaces fresh_reader store refused refl refl begun usable) (stops-unread (seen_of_script first)))
 
   -- and then what it left was told
   pub makes-store : {old new : D} {tick : ℕ} {setting : Setting} {number : ℕ} {spaces left : SpacesSeen} {probes mid now : ℕ} {played : Result Bool Status} (told : Result Bool Status) {kept : Setting} {before after : SinkSeen} →
@@ -174,15 +176,17 @@ module _ {D : Type 0} {seen : D → Option (List ℕ)} {image : D → List ℕ �
   makes-store {old} {new} {tick} {setting} {number} {spaces} {left} {probes} {mid} {now} {played} told {kept} {before} {after} made tells few =
       record {
         played = end_status played;
-        own = made.own;
-        own_after = made.own_after;
-        script_is = made.script_is;
-        reads = made.reads;
-        writes = made.writes;
-        begins = made.begins;
-        asks = omega (arith, few, made.asks);
+        own = record {
+          before = made.own.before;
+          after = made.own.after;
+          script_is = made.own.script_is;
+          reads = made.own.reads;
+          writes = made.own.writes;
+          begins = made.own.begins;
+          asks = omega (arith, few, made.own.asks);
+        };
         plays = made.on.plays;
-        tells = of spaces.contents made.own.source.left made.script_is played made.on.leaves made.on.stops tells;
+        tells = of spaces.contents made.own.before.source.left made.own.script_is played made.on.leaves made.on.stops tells;
         opened = ends.opened;
         reported = subst (λ (b : Bool). ReportsFault b (faults old) (faults new)) (sym ends.disk) made.on.plays.reported;
         unread = ends.unread;
@@ -215,28 +219,9 @@ unattached-unfinished Done un finished = un
 unattached-unfinished SomeRefused un finished = un
 unattached-unfinished other un finished = finished
 
--- what is said of a run that is to make its script, in all
-abbrev pub SaysMade : {D : Type 0} (seen : D → Option (List ℕ)) (image : D → List ℕ → Type 0) (moment : D → ℕ) (image_since : D → ℕ → List ℕ → Type 0) (old new : D) (asked : Options) (spaces left : SpacesSeen) (status : Status) (before after : SinkSeen)
-    (faultless : Outside → Outside → Type 0) → Status → Outside → Outside → Type 0
-SaysMade seen image moment image_since old new asked spaces left status before after faultless played own own_after =
-    IfOpened asked (seen old) own.source.left (λ opening setting script. IfTold spaces left asked.tick setting script (λ given.
-    Ran asked.fresh given played setting script (once_open opening own) own_after (IsSettled (seen old) (image old)) (image new) (LeavesOnly moment image_since old new) (faultless own own_after)
-    × Tells played status (left_by setting (play given setting script)).state before after))
-
 -- the same of it where more is known
 pub makes-given : {number : ℕ} {before after : Outside} (P R : Status → Outside → Outside → Type 0) → ((played : Status) (own own_after : Outside) → P played own own_after → R played own own_after) → Makes number before after P → Makes number before after R
-makes-given P R then_r makes = record {
-  played = makes.played;
-  own = makes.own;
-  own_after = makes.own_after;
-  script_is = makes.script_is;
-  reads = makes.reads;
-  writes = makes.writes;
-  unread = makes.unread;
-  begins = makes.begins;
-  asks = makes.asks;
-  says = then_r makes.played makes.own makes.own_after makes.says;
-}
+makes-given P R then_r makes = record { played = makes.played; own = makes.own; unread = makes.unread; says = then_r makes.played makes.own.before makes.own.after makes.says }
 
 pub makes-each : (make : Option ℕ) (P R : ℕ → Type 0) → ((number : ℕ) → P number → R number) → IfSome make P → IfSome make R
 makes-each None P R then_r made = search rules
@@ -248,29 +233,15 @@ makes-all (Some number) P each = each number
 
 module _ {D : Type 0} (seen : D → Option (List ℕ)) (image : D → List ℕ → Type 0) (moment : D → ℕ) (image_since : D → ℕ → List ℕ → Type 0) (attached : D → Option (List (List ℕ × Bool))) (faults : D → ℕ) where
   -- nothing was played
-  pub makes-none : (asked : Options) (old new : D) (before after : Outside) (spaces left : SpacesSeen) (status : Status) (number : ℕ) (faultless : Outside → Outside → Type 0) → (IsFinished status → ⊥) → after.source ≡ before.source → after.sink ≡ before.sink →
-      IfOpened asked (seen old) (Some (generated number)) (λ opening setting script. IfTold spaces left asked.tick setting script (λ given.
-      Ran asked.fresh given status setting script (once_open opening (own_outside number before.probes)) (own_outside number after.probes) (IsSettled (seen old) (image old)) (image new) (LeavesOnly moment image_since old new) (faultless (own_outside number before.probes) (own_outside number after.probes)))) →
-      Makes number before after (SaysMade seen image moment image_since old new asked spaces left status before.sink after.sink faultless)
-  makes-none asked old new before after spaces left status number faultless unfinished unread unwritten ran =
-      let own = own_outside number before.probes in
-      let own_after = own_outside number after.probes in
+  pub makes-none : (asked : Options) (old new : D) (before after : Outside) (spaces left : SpacesSeen) (premise : Type 0) (status : Status) (number : ℕ) → after.source ≡ before.source →
+      RunsMade seen image moment image_since faults old new spaces left asked premise status before.sink after.sink status (own_outside number before.probes) (own_outside number after.probes) →
+      Makes number before after (RunsMade seen image moment image_since faults old new spaces left asked premise status before.sink after.sink)
+  makes-none asked old new before after spaces left premise status number unread ran =
       record {
         played = status;
-        own = own;
-        own_after = own_after;
-        script_is = refl;
-        reads = refl;
-        writes = refl;
+        own = record { before = own_outside number before.probes; after = own_outside number after.probes; script_is = refl; reads = refl; writes = refl; begins = refl; asks = omega arith };
         unread = unread;
-        begins = refl;
-        asks = omega arith;
-        says =
-            told-given asked.fresh asked.tick
-            (λ opening given setting script. Ran asked.fresh given status setting script (once_open opening own) own_after (IsSettled (seen old) (image old)) (image new) (LeavesOnly moment image_since old new) (faultless own own_after))
-            (λ opening given setting script. Ran asked.fresh given status setting script (once_open opening own) own_after (IsSettled (seen old) (image old)) (image new) (LeavesOnly moment image_since old new) (faultless own own_after)
-            × Tells status status (left_by setting (play given setting script)).state before.sink after.sink)
-            (λ opening given setting script ran. (ran, tells-stop status (left_by setting (play given setting script)).state before.sink after.sink unfinished unwritten)) spaces spaces left refl (seen old) (Some (generated number)) ran;
+        says = ran;
       }
 
   -- a store was opened, and the script was played on it
@@ -278,21 +249,23 @@ module _ {D : Type 0} (seen : D → Option (List ℕ)) (image : D → List ℕ �
       MakesStore seen image moment image_since attached faults mid new asked.tick setting number before.sink after.sink spaces left mid_probes after.probes status → faults mid ≡ faults old → after.source ≡ before.source →
       IfSome (seen old) (λ f. opening_outcome asked.fresh (held f) ≡ Ok setting) → IfSome (seen old) (λ f. mid_probes ≤ before.probes + loading f) → IfSome (seen old) (λ _. Stands (seen mid) (image mid) setting) →
       IfSome (seen old) (λ f. IfOk (opening_outcome asked.fresh (held f)) (Opening seen image moment image_since attached faults asked.fresh (IsSettled (seen old) (image old)) old mid)) →
-      Makes number before after (SaysMade seen image moment image_since old new asked spaces left status before.sink after.sink (λ own own_after. IsFaultless own own_after (faults old) (faults new)))
+      Makes number before after (RunsMade seen image moment image_since faults old new spaces left asked ⊤ status before.sink after.sink)
   makes-opened counts_now asked old mid new setting before after spaces left status number mid_probes made quiet unread is few stands opening =
       record {
         played = made.played;
-        own = record made.own { probes = before.probes };
-        own_after = made.own_after;
-        script_is = made.script_is;
-        reads = made.reads;
-        writes = made.writes;
+        own = record {
+          before = record made.own.before { probes = before.probes };
+          after = made.own.after;
+          script_is = made.own.script_is;
+          reads = made.own.reads;
+          writes = made.own.writes;
+          begins = refl;
+          asks = made.own.asks;
+        };
         unread = unread;
-        begins = refl;
-        asks = made.asks;
         says =
-            ran-opened-with seen image moment image_since attached faults counts_now asked.fresh asked.tick (IsSettled (seen old) (image old)) old mid new setting made.own made.own_after before.probes spaces left made.played made.plays quiet
-            (λ given z script. Tells made.played status (left_by z (play given z script)).state before.sink after.sink) (seen old) is (subst (λ (n : ℕ). IfSome (seen old) (λ f. n ≤ before.probes + loading f)) (sym made.begins) few) stands opening (tells spaces.contents made.own.source.left made.script_is made.tells);
+            ran-opened-with seen image moment image_since attached faults counts_now asked.fresh asked.tick (IsSettled (seen old) (image old)) old mid new setting made.own.before made.own.after before.probes spaces left made.played made.plays quiet
+            (λ given z script. Tells made.played status (left_by z (play given z script)).state before.sink after.sink) (seen old) is (subst (λ (n : ℕ). IfSome (seen old) (λ f. n ≤ before.probes + loading f)) (sym made.own.begins) few) stands opening (tells spaces.contents made.own.before.source.left made.own.script_is made.tells);
       }
     where
       tells : (o : Option Contents) (script : Option (List ℕ)) → script ≡ Some (generated number) →
@@ -324,43 +297,40 @@ module _ {D : Type 0} (seen : D → Option (List ℕ)) (image : D → List ℕ �
   pub made-unopened : (asked : Options) (old new : D) (before : Outside) (now : ℕ) (spaces : SpacesSeen) (status : Status) → StopsOpening status → ReportsFault (is_disk_fault status) (faults old) (faults new) →
       IfSome (seen old) (λ f. IsOpened (Err status) (opening_outcome asked.fresh (held f))) → IfSome (seen old) (λ f. now ≤ before.probes + loading f) →
       IfSome (seen old) (λ f. IfOk (opening_outcome asked.fresh (held f)) (Opening seen image moment image_since attached faults asked.fresh (IsSettled (seen old) (image old)) old new)) →
-      (make : Option ℕ) → IfSome make (λ number. Makes number before (record before { probes = now })
-      (SaysMade seen image moment image_since old new asked spaces spaces status before.sink before.sink (λ own own_after. IsFaultless own own_after (faults old) (faults new))))
+      (make : Option ℕ) → IfSome make (λ number. Makes number before (record before { probes = now }) (RunsMade seen image moment image_since faults old new spaces spaces asked ⊤ status before.sink before.sink))
   made-unopened asked old new before now spaces status stops told opened few opening make =
-      makes-all make (λ number. Makes number before (record before { probes = now }) (SaysMade seen image moment image_since old new asked spaces spaces status before.sink before.sink (λ own own_after. IsFaultless own own_after (faults old) (faults new))))
+      makes-all make (λ number. Makes number before (record before { probes = now }) (RunsMade seen image moment image_since faults old new spaces spaces asked ⊤ status before.sink before.sink))
       (λ number.
-      makes-none seen image moment image_since attached faults asked old new before (record before { probes = now }) spaces spaces status number (λ own own_after. IsFaultless own own_after (faults old) (faults new)) (opening-unfinished status stops) refl refl
-      (ran-unopened seen image moment image_since attached faults counts_now asked.fresh asked.tick (IsSettled (seen old) (image old)) old new (own_outside number before.probes) now spaces status stops told (seen old) opened few opening))
+      makes-none seen image moment image_since attached faults asked old new before (record before { probes = now }) spaces spaces ⊤ status number refl
+      (ran-unopened seen image moment image_since attached faults counts_now asked old new (own_outside number before.probes) now spaces (λ given setting script. Tells status status (left_by setting (play given setting script)).state before.sink before.sink)
+      (λ given setting script. tells-none status _ before.sink (opening-unfinished status stops)) status stops told opened few opening))
 
   -- no space was attached
-  pub made-unattached : (faultless : Outside → Outside → Type 0) (status : Status) → IsUnattached status → ((own : Outside) → faultless own own → is_bad_space status ≡ true → ⊥) → (asked : Options) (disk : D) (before : Outside) (old new : SpacesSeen) → old.faults ≤ new.faults →
-      (make : Option ℕ) → IfSome make (λ number. Makes number before before (SaysMade seen image moment image_since disk disk asked old new status before.sink before.sink faultless))
-  made-unattached faultless status un good asked disk before old new later make =
-      makes-all make (λ number. Makes number before before (SaysMade seen image moment image_since disk disk asked old new status before.sink before.sink faultless))
+  pub made-unattached : (premise : Type 0) (status : Status) → IsUnattached status → (premise → is_bad_space status ≡ true → ⊥) → (asked : Options) (disk : D) (before : Outside) (old new : SpacesSeen) → old.faults ≤ new.faults →
+      (make : Option ℕ) → IfSome make (λ number. Makes number before before (RunsMade seen image moment image_since faults disk disk old new asked premise status before.sink before.sink))
+  made-unattached premise status un good asked disk before old new later make =
+      makes-all make (λ number. Makes number before before (RunsMade seen image moment image_since faults disk disk old new asked premise status before.sink before.sink))
       (λ number.
-      makes-none seen image moment image_since attached faults asked disk disk before before old new status number faultless (unattached-unfinished status un) refl refl
-      (ran-unattached seen image moment image_since attached faults only_now counts_now (faultless (own_outside number before.probes) (own_outside number before.probes)) status un (good (own_outside number before.probes)) asked disk (own_outside number before.probes) old new later))
+      makes-none seen image moment image_since attached faults asked disk disk before before old new premise status number refl
+      (ran-unattached seen image moment image_since attached faults only_now counts_now premise status un good asked disk (own_outside number before.probes) old new later
+      (λ given setting script. Tells status status (left_by setting (play given setting script)).state before.sink before.sink) (λ given setting script. tells-none status _ before.sink (unattached-unfinished status un))))
 
   -- memory ran out before any space was attached
-  pub memory-made : (faultless : Options → Outside → Outside → Type 0) (words : Option Options) (disk : D) (before : Outside) (spaces : SpacesSeen) →
-      IfMakes words (λ asked number. Makes number before before (SaysMade seen image moment image_since disk disk asked spaces spaces Memory before.sink before.sink (faultless asked)))
-  memory-made faultless None disk before spaces = search rules
-  memory-made faultless (Some asked) disk before spaces = made-unattached (faultless asked) Memory tt (λ own _ never. absurd (true≢false (sym never))) asked disk before spaces spaces (omega arith) asked.make
+  pub memory-made : (premise : Options → Type 0) (words : Option Options) (disk : D) (before : Outside) (spaces : SpacesSeen) →
+      IfMakes words (λ asked number. Makes number before before (RunsMade seen image moment image_since faults disk disk spaces spaces asked (premise asked) Memory before.sink before.sink))
+  memory-made premise None disk before spaces = search rules
+  memory-made premise (Some asked) disk before spaces = made-unattached (premise asked) Memory tt (λ _ never. absurd (true≢false (sym never))) asked disk before spaces spaces (omega arith) asked.make
 
   -- spaces were attached before
-  pub made-given : (asked : Options) (old new : D) (before after : Outside) (spaces mid left : SpacesSeen) (status : Status) (less more : Outside → Outside → Type 0) → ((own own_after : Outside) → more own own_after → less own own_after) → mid.faults ≡ spaces.faults →
-      (make : Option ℕ) → IfSome make (λ number. Makes number before after (SaysMade seen image moment image_since old new asked mid left status before.sink after.sink less)) →
-      IfSome make (λ number. Makes number before after (SaysMade seen image moment image_since old new asked spaces left status before.sink after.sink more))
-  made-given asked old new before after spaces mid left status less more leads same make made =
-      let settled = IsSettled (seen old) (image old) in
-      let leaves = LeavesOnly moment image_since old new in
-      makes-each make (λ number. Makes number before after (SaysMade seen image moment image_since old new asked mid left status before.sink after.sink less))
-      (λ number. Makes number before after (SaysMade seen image moment image_since old new asked spaces left status before.sink after.sink more))
+  pub made-given : (asked : Options) (old new : D) (before after : Outside) (spaces mid left : SpacesSeen) (status : Status) (premise : Type 0) → mid.faults ≡ spaces.faults →
+      (make : Option ℕ) → IfSome make (λ number. Makes number before after (RunsMade seen image moment image_since faults old new mid left asked ⊤ status before.sink after.sink)) →
+      IfSome make (λ number. Makes number before after (RunsMade seen image moment image_since faults old new spaces left asked premise status before.sink after.sink))
+  made-given asked old new before after spaces mid left status premise same make made =
+      let was = RunsMade seen image moment image_since faults old new mid left asked ⊤ status before.sink after.sink in
+      let now = RunsMade seen image moment image_since faults old new spaces left asked premise status before.sink after.sink in
+      makes-each make (λ number. Makes number before after was) (λ number. Makes number before after now)
       (λ number.
-      makes-given (SaysMade seen image moment image_since old new asked mid left status before.sink after.sink less) (SaysMade seen image moment image_since old new asked spaces left status before.sink after.sink more)
-      (λ played own own_after says.
-      told-given asked.fresh asked.tick
-      (λ opening given setting script. Ran asked.fresh given played setting script (once_open opening own) own_after settled (image new) leaves (less own own_after) × Tells played status (left_by setting (play given setting script)).state before.sink after.sink)
-      (λ opening given setting script. Ran asked.fresh given played setting script (once_open opening own) own_after settled (image new) leaves (more own own_after) × Tells played status (left_by setting (play given setting script)).state before.sink after.sink)
-      (λ opening given setting script both. (ran-more asked.fresh given played setting script (once_open opening own) own_after settled (image new) leaves (less own own_after) (more own own_after) (leads own own_after) both.0, both.1))
-      spaces mid left same (seen old) own.source.left says)) made
+      makes-given was now
+      (λ played own own_after.
+      ran-given seen image moment image_since faults old new spaces mid left same asked ⊤ premise (λ _. tt) own own_after played
+      (λ given setting script. Tells played status (left_by setting (play given setting script)).state before.sink after.sink))) made

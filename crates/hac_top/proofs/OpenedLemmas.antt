@@ -8,6 +8,7 @@ use Rattle.hac_disk.proofs.Moments.{quiet_leaves, then_run, weaken}
 use Rattle.hac_outside.specs.Causes.{Rose, ReportsFault}
 use Rattle.hac_model.specs.Run.Play.{AreAskable, Given, Setting, all_events, new_setting, play}
 use Rattle.hac_model.specs.Script as Script
+use Rattle.hac_model.specs.Script.CommandLine.{Options}
 use Rattle.sem_mounts.specs.Seen.{Contents, SpacesSeen}
 use Rattle.hac_top.specs.Asking.{AreMet, IfTold, faults_after, given_by}
 use Rattle.hac_top.proofs.AskLemmas.{askable-none, met-none}
@@ -19,7 +20,7 @@ use Rattle.hac_store.specs.Loading.{loading}
 use Rattle.hac_store.specs.Stores.{IsNewOrNone, Stands}
 use Rattle.hac_top.specs.Crashes.{Holds, IsOpened, IsTreeAfter, IsTreeOfAnswered, Reopens, StopsOpening, IsOfFile, opening_outcome}
 use Rattle.hac_top.specs.Ends.{IsFinished, IsOpenStatus, is_disk_fault}
-use Rattle.hac_top.specs.Run.{AnswersBy, Completes, Ends, HasBegun, IsFaultless, IsTreeOf, Outside, Played, Plays, PlaysStore, Ran, once_open}
+use Rattle.hac_top.specs.Run.{AnswersBy, Completes, Ends, HasBegun, IsFaultless, IsTreeOf, Outside, Played, Plays, PlaysStore, Ran, RunsAnd, once_open}
 use Rattle.hac_top.specs.declared.status.Status.{Status}
 use Rattle.hac_top.specs.declared.status.Status.TheVariants.{Done, SomeRefused, ReadFault, WriteFault, DiskFault, NotStore, Memory, TooLong, AlreadyStore}
 use Rattle.hac_top.proofs.CrashLemmas.{all-answered, holds-weaker, reopens}
@@ -157,7 +158,7 @@ module _ {D : Type 0} (seen : D → Option (List ℕ)) (image : D → List ℕ �
       (plays : PlaysStore seen image moment image_since attached faults mid new tick setting before after spaces left status) (quiet : faults mid ≡ faults old) where
     ran-from : (given : Given) (script : List ℕ) (opens : ℕ) → before.probes ≤ begun + opens → Stands (seen mid) (image mid) setting → Opening fresh settled old mid setting → Played false given status setting script before after (Stands (seen mid) (image mid) setting) (image new) →
         (Stands (seen mid) (image mid) setting → LeavesOnly moment image_since mid new (Holds (IsTreeOf given setting script))) →
-        Ran fresh given status setting script (once_open opens (record before { probes = begun })) after settled (image new) (LeavesOnly moment image_since old new) (IsFaultless before after (faults old) (faults new))
+        Ran fresh given status setting script (once_open opens (record before { probes = begun })) after settled (image new) (LeavesOnly moment image_since old new) (⊤ × IsFaultless before after (faults old) (faults new))
     ran-from given script opens few stands opening played moments =
         let events = all_events (play given setting script) in
         record {
@@ -181,8 +182,8 @@ module _ {D : Type 0} (seen : D → Option (List ℕ)) (image : D → List ℕ �
               let run = moments stands in
               run.each c (counts_now new (moment mid) c run.later left);
           complete = λ none.
-              completes given status setting script before after plays.opened played.plays plays.ends none.0 none.1
-              (no-disk (is_disk_fault status) (faults old) (faults new) (told-since (is_disk_fault status) (faults old) (faults mid) (faults new) quiet plays.reported) none.2);
+              completes given status setting script before after plays.opened played.plays plays.ends none.1.0 none.1.1
+              (no-disk (is_disk_fault status) (faults old) (faults new) (told-since (is_disk_fault status) (faults old) (faults mid) (faults new) quiet plays.reported) none.1.2);
         }
 
     -- the faults that it met are those of the script
@@ -195,7 +196,7 @@ module _ {D : Type 0} (seen : D → Option (List ℕ)) (image : D → List ℕ �
     module _ (Q : Given → Setting → List ℕ → Type 0) where
       abbrev Says : ℕ → Setting → List ℕ → Given → Type 0
       Says opens z script given =
-          Ran fresh given status z script (once_open opens (record before { probes = begun })) after settled (image new) (LeavesOnly moment image_since old new) (IsFaultless before after (faults old) (faults new)) × Q given z script
+          Ran fresh given status z script (once_open opens (record before { probes = begun })) after settled (image new) (LeavesOnly moment image_since old new) (⊤ × IsFaultless before after (faults old) (faults new)) × Q given z script
 
       ran-told : (opens : ℕ) → before.probes ≤ begun + opens → (script : Option (List ℕ)) (o : Option Contents) → IfSome o (λ c. IfSome script (λ s. AreAskable (given_by c plays.met tick) setting (Script.script s))) →
           IfSome o (λ c. IfSome script (λ s. Played false (given_by c plays.met tick) status setting s before after (Stands (seen mid) (image mid) setting) (image new))) →
@@ -226,12 +227,8 @@ module _ {D : Type 0} (seen : D → Option (List ℕ)) (image : D → List ℕ �
     pub ran-opened : (file : Option (List ℕ)) → IfSome file (λ f. opening_outcome fresh (held f) ≡ Ok setting) → IfSome file (λ f. before.probes ≤ begun + loading f) → IfSome file (λ _. Stands (seen mid) (image mid) setting) →
         IfSome file (λ f. IfOk (opening_outcome fresh (held f)) (Opening fresh settled old mid)) →
         IfSome file (λ f. IfSome before.source.left (λ script. IfOk (opening_outcome fresh (held f)) (λ z. IfTold spaces left tick z script (λ given.
-        Ran fresh given status z script (once_open (loading f) (record before { probes = begun })) after settled (image new) (LeavesOnly moment image_since old new) (IsFaultless before after (faults old) (faults new))))))
-    ran-opened file is few stands opening =
-        told-given fresh tick (λ opens given z script. Says (λ given z script. ⊤) opens z script given)
-        (λ opens given z script. Ran fresh given status z script (once_open opens (record before { probes = begun })) after settled (image new) (LeavesOnly moment image_since old new) (IsFaultless before after (faults old) (faults new)))
-        (λ opens given z script ran. ran.0) spaces spaces left refl file before.source.left
-        (ran-opened-with (λ given z script. ⊤) file is few stands opening (nothing spaces.contents before.source.left))
+        Ran fresh given status z script (once_open (loading f) (record before { probes = begun })) after settled (image new) (LeavesOnly moment image_since old new) (⊤ × IsFaultless before after (faults old) (faults new)) × ⊤))))
+    ran-opened file is few stands opening = ran-opened-with (λ given z script. ⊤) file is few stands opening (nothing spaces.contents before.source.left)
       where
         nothing : (o : Option Contents) (l : Option (List ℕ)) → IfSome o (λ c. IfSome l (λ s. ⊤))
         nothing None l = search rules
@@ -263,27 +260,46 @@ module _ {D : Type 0} (seen : D → Option (List ℕ)) (image : D → List ℕ �
           complete = complete;
         }
 
-  module _ (counts_now : (disk : D) (t : ℕ) (c : List ℕ) → t ≤ moment disk → image disk c → image_since disk t c) (fresh : Bool) (tick : ℕ) (settled : Type 0) (old new : D) (before : Outside) (now : ℕ) where
-    pub ran-unopened : (spaces : SpacesSeen) (ends : Status) → StopsOpening ends → ReportsFault (is_disk_fault ends) (faults old) (faults new) → (file : Option (List ℕ)) → IfSome file (λ f. IsOpened (Err ends) (opening_outcome fresh (held f))) → IfSome file (λ f. now ≤ before.probes + loading f) →
-        IfSome file (λ f. IfOk (opening_outcome fresh (held f)) (Opening fresh settled old new)) →
-        IfSome file (λ f. IfSome before.source.left (λ script. IfOk (opening_outcome fresh (held f)) (λ z. IfTold spaces spaces tick z script (λ given. Ran fresh given ends z script (once_open (loading f) before) (record before { probes = now }) settled (image new) (LeavesOnly moment image_since old new) (IsFaultless before before (faults old) (faults new))))))
-    ran-unopened spaces ends why told None opened few opening = search rules
-    ran-unopened spaces ends why told (Some f) opened few opening = of before.source.left refl
+  module _ (counts_now : (disk : D) (t : ℕ) (c : List ℕ) → t ≤ moment disk → image disk c → image_since disk t c) (asked : Options) (old new : D) (before : Outside) (now : ℕ) (spaces : SpacesSeen) where
+    -- and whatever else is known of it
+    pub ran-unopened : (Also : Given → Setting → List ℕ → Type 0) → ((given : Given) (setting : Setting) (script : List ℕ) → Also given setting script) → (ends : Status) → StopsOpening ends → ReportsFault (is_disk_fault ends) (faults old) (faults new) →
+        IfSome (seen old) (λ f. IsOpened (Err ends) (opening_outcome asked.fresh (held f))) → IfSome (seen old) (λ f. now ≤ before.probes + loading f) →
+        IfSome (seen old) (λ f. IfOk (opening_outcome asked.fresh (held f)) (Opening asked.fresh (IsSettled (seen old) (image old)) old new)) →
+        RunsAnd seen image moment image_since faults old new spaces spaces asked ⊤ before (record before { probes = now }) ends Also
+    ran-unopened Also also ends why told = file (seen old)
       where
-        by : (given : Given) (ends : Status) → StopsOpening ends → ReportsFault (is_disk_fault ends) (faults old) (faults new) → (setting : Setting) (script : List ℕ) → Some script ≡ before.source.left → (IsOfFile ends → Ok setting ≡ Err ends) → Opening fresh settled old new setting →
-            Ran fresh given ends setting script (once_open (loading f) before) (record before { probes = now }) settled (image new) (LeavesOnly moment image_since old new) (IsFaultless before before (faults old) (faults new))
-        by given DiskFault why told setting script left_is tells opening = ran-none counts_now fresh tick settled old new (once_open (loading f) before) now given (IsFaultless before before (faults old) (faults new)) DiskFault setting script left_is few opening (λ done. tt) (λ never. never) (λ none. absurd (none.2 told.1))
-        by given Memory why told setting script left_is tells opening = ran-none counts_now fresh tick settled old new (once_open (loading f) before) now given (IsFaultless before before (faults old) (faults new)) Memory setting script left_is few opening (λ done. tt) (λ never. never) (λ _. record { within = λ _. inr refl; past = λ _. inr refl })
-        by given (NotStore at) why told setting script left_is tells opening = absurd (let never : Ok setting ≡ Err (NotStore at) = tells tt in cc)
-        by given AlreadyStore why told setting script left_is tells opening = absurd (let never : Ok setting ≡ Err AlreadyStore = tells tt in cc)
-        by given other why told setting script left_is tells opening = absurd why
+        settled : Type 0
+        settled = IsSettled (seen old) (image old)
 
-        at : (r : Result Setting Status) (script : List ℕ) → Some script ≡ before.source.left → IsOpened (Err ends) r → IfOk r (Opening fresh settled old new) →
-            IfOk r (λ z. IfTold spaces spaces tick z script (λ given. Ran fresh given ends z script (once_open (loading f) before) (record before { probes = now }) settled (image new) (LeavesOnly moment image_since old new) (IsFaultless before before (faults old) (faults new))))
-        at (Err wanted) script left_is opened opening = search rules
-        at (Ok setting) script left_is opened opening = told-none spaces spaces tick setting script (λ given. Ran fresh given ends setting script (once_open (loading f) before) (record before { probes = now }) settled (image new) (LeavesOnly moment image_since old new) (IsFaultless before before (faults old) (faults new))) (omega arith) (λ given. by given ends why told setting script left_is opened opening)
+        says : ℕ → Setting → List ℕ → Given → Status → Type 0
+        says opens setting script given ends =
+            Ran asked.fresh given ends setting script (once_open opens before) (record before { probes = now }) settled (image new) (LeavesOnly moment image_since old new) (⊤ × IsFaultless before before (faults old) (faults new))
 
-        of : (left : Option (List ℕ)) → left ≡ before.source.left →
-            IfSome left (λ script. IfOk (opening_outcome fresh (held f)) (λ z. IfTold spaces spaces tick z script (λ given. Ran fresh given ends z script (once_open (loading f) before) (record before { probes = now }) settled (image new) (LeavesOnly moment image_since old new) (IsFaultless before before (faults old) (faults new)))))
-        of None left_is = search rules
-        of (Some script) left_is = at (opening_outcome fresh (held f)) script left_is opened opening
+        none : (opens : ℕ) → now ≤ before.probes + opens → (given : Given) (ends : Status) (setting : Setting) (script : List ℕ) → Some script ≡ before.source.left → Opening asked.fresh settled old new setting → ((done : ℕ) → AnswersBy given ends setting script done (Some script)) → (IsFinished ends → ⊥) →
+            (⊤ × IsFaultless before before (faults old) (faults new) → Completes ends script) → says opens setting script given ends
+        none opens few given ends setting script left_is opening =
+            ran-none counts_now asked.fresh asked.tick settled old new (once_open opens before) now given (⊤ × IsFaultless before before (faults old) (faults new)) ends setting script left_is few opening
+
+        by : (opens : ℕ) → now ≤ before.probes + opens → (given : Given) (ends : Status) → StopsOpening ends → ReportsFault (is_disk_fault ends) (faults old) (faults new) → (setting : Setting) (script : List ℕ) → Some script ≡ before.source.left → (IsOfFile ends → Ok setting ≡ Err ends) → Opening asked.fresh settled old new setting →
+            says opens setting script given ends
+        by opens few given DiskFault why told setting script left_is tells opening = none opens few given DiskFault setting script left_is opening (λ done. tt) (λ never. never) (λ none. absurd (none.1.2 told.1))
+        by opens few given Memory why told setting script left_is tells opening = none opens few given Memory setting script left_is opening (λ done. tt) (λ never. never) (λ _. record { within = λ _. inr refl; past = λ _. inr refl })
+        by opens few given (NotStore at) why told setting script left_is tells opening = absurd (let never : Ok setting ≡ Err (NotStore at) = tells tt in cc)
+        by opens few given AlreadyStore why told setting script left_is tells opening = absurd (let never : Ok setting ≡ Err AlreadyStore = tells tt in cc)
+        by opens few given other why told setting script left_is tells opening = absurd why
+
+        at : (opens : ℕ) → now ≤ before.probes + opens → (r : Result Setting Status) (script : List ℕ) → Some script ≡ before.source.left → IsOpened (Err ends) r → IfOk r (Opening asked.fresh settled old new) →
+            IfOk r (λ z. IfTold spaces spaces asked.tick z script (λ given. says opens z script given ends × Also given z script))
+        at opens few (Err wanted) script left_is opened opening = search rules
+        at opens few (Ok setting) script left_is opened opening =
+            told-none spaces spaces asked.tick setting script (λ given. says opens setting script given ends × Also given setting script) (omega arith) (λ given. (by opens few given ends why told setting script left_is opened opening, also given setting script))
+
+        of : (f : List ℕ) → IsOpened (Err ends) (opening_outcome asked.fresh (held f)) → now ≤ before.probes + loading f → IfOk (opening_outcome asked.fresh (held f)) (Opening asked.fresh settled old new) → (left : Option (List ℕ)) → left ≡ before.source.left →
+            IfSome left (λ script. IfOk (opening_outcome asked.fresh (held f)) (λ z. IfTold spaces spaces asked.tick z script (λ given. says (loading f) z script given ends × Also given z script)))
+        of f opened few opening None left_is = search rules
+        of f opened few opening (Some script) left_is = at (loading f) few (opening_outcome asked.fresh (held f)) script left_is opened opening
+
+        file : (o : Option (List ℕ)) → IfSome o (λ f. IsOpened (Err ends) (opening_outcome asked.fresh (held f))) → IfSome o (λ f. now ≤ before.probes + loading f) → IfSome o (λ f. IfOk (opening_outcome asked.fresh (held f)) (Opening asked.fresh settled old new)) →
+            IfSome o (λ f. IfSome before.source.left (λ script. IfOk (opening_outcome asked.fresh (held f)) (λ z. IfTold spaces spaces asked.tick z script (λ given. says (loading f) z script given ends × Also given z script))))
+        file None opened few opening = search rules
+        file (Some f) opened few opening = of f opened few opening before.source.left refl

@@ -7,15 +7,17 @@ use Rattle.hac_disk.specs.Contents.{Attaches}
 use Rattle.hac_disk.specs.Images.{IsQuiet}
 use Rattle.hac_outside.specs.Causes.{ReportsFault}
 use Rattle.hac_model.specs.Run.Play.{Setting, new_setting}
+use Rattle.hac_model.specs.Tree.Valid.{IsValid}
 use Rattle.hac_store.specs.Faults as faults
 use Rattle.hac_store.specs.Held.{held}
 use Rattle.hac_store.specs.Stores as store
-use Rattle.hac_store.specs.Stores.{Seen, first_store}
+use Rattle.hac_store.specs.Stores.{Bears, Seen, first_store}
 use Rattle.hac_store.specs.declared.fault.StoreFault.{StoreFault}
 use Rattle.hac_store.specs.declared.fault.StoreFault.TheVariants as fault
 use Rattle.hac_top.specs.Attaching.{AttachesStore}
 use Rattle.hac_top.specs.Crashes.{IsOpened, opening_outcome, opening_result}
 use Rattle.hac_top.specs.Ends.{reports_disk}
+use Rattle.hac_top.specs.Storing.{IsUsable}
 use Rattle.hac_top.specs.declared.status.Status.{Status}
 use Rattle.hac_model.specs.Script.CommandLine as line
 
@@ -96,6 +98,28 @@ one-stands P (Err failed) h = search rules
 pub loaded-stands : (P : Setting → Type 0) (told : Option (List ℕ)) (r : Result Seen StoreFault) (opened : Result Seen Status) → opened ≡ opening_result r → IfSome told (λ file. IfOk r (λ opened. P opened.setting)) → IfSome told (λ file. IfOk opened (λ opened. P opened.setting))
 loaded-stands P None r opened is h = search rules
 loaded-stands P (Some file) r opened is h = subst (λ (o : Result Seen Status). IfOk o (λ opened. P opened.setting)) (sym is) (one-stands P r h)
+
+-- and it can go on
+one-usable : (told : Option (List ℕ)) (r : Result Seen StoreFault) → IfOk r (λ store. store.broken ≡ false) → IfOk r (λ store. Bears told store) → IfOk (opening_result r) (IsUsable told)
+one-usable told (Ok opened) intact place = record { intact = intact; place = place }
+one-usable told (Err failed) intact place = search rules
+
+opened-usable : (told : Option (List ℕ)) (r : Result Seen StoreFault) (opened : Result Seen Status) → opened ≡ opening_result r → IfOk r (λ store. store.broken ≡ false) → IfOk r (λ store. Bears told store) → IfOk opened (IsUsable told)
+opened-usable told r opened is intact place = subst (λ (o : Result Seen Status). IfOk o (IsUsable told)) (sym is) (one-usable told r intact place)
+
+pub made-usable : (told : Option (List ℕ)) (r : Result Seen StoreFault) (opened : Result Seen Status) → opened ≡ opening_result r → IfOk r (λ made. made ≡ first_store) → IfOk r (λ store. Bears told store) → IfOk opened (IsUsable told)
+made-usable told r opened is first place = opened-usable told r opened is (intact r first) place
+  where
+    intact : (r : Result Seen StoreFault) → IfOk r (λ made. made ≡ first_store) → IfOk r (λ store. store.broken ≡ false)
+    intact (Ok made) first = ap (λ (st : Seen). st.broken) first
+    intact (Err failed) first = search rules
+
+pub loaded-usable : (told : Option (List ℕ)) (r : Result Seen StoreFault) (opened : Result Seen Status) → opened ≡ opening_result r → IfOk r (λ store. (store.broken ≡ false) × IsValid store.setting.state) → IfOk r (λ store. Bears told store) → IfOk opened (IsUsable told)
+loaded-usable told r opened is sound place = opened-usable told r opened is (intact r sound) place
+  where
+    intact : (r : Result Seen StoreFault) → IfOk r (λ store. (store.broken ≡ false) × IsValid store.setting.state) → IfOk r (λ store. store.broken ≡ false)
+    intact (Ok loaded) sound = sound.0
+    intact (Err failed) sound = search rules
 
 module _ {D : Type 0} (seen : D → Option (List ℕ)) (image : D → List ℕ → Type 0) (moment : D → ℕ) (image_since : D → ℕ → List ℕ → Type 0) where
   abbrev Quiet : D → D → Type 0

@@ -23,7 +23,6 @@ use Rattle.hac_store.proofs.PutLemmas.{stands-each}
 use Rattle.hac_top.specs.Crashes.{Holds, IsTreeAfter}
 use Rattle.hac_store.specs.Checkpointing.{Checkpoints, HoldsState}
 use Rattle.hac_top.specs.Deciding.{saved_turn, saving_turn, standing_turn, storing_turn, turn_with}
-use Rattle.hac_top.specs.Ends.{store_status}
 use Rattle.hac_top.specs.Storing.{Stores, StoresSteps, StoresTurn, storing_reply}
 use Rattle.hac_top.specs.declared.status.Status.TheVariants.{Memory}
 use Rattle.std.proofs.lemmas.Bool.Decides.{nat_tests}
@@ -91,7 +90,7 @@ module _ {D : Type 0} {seen : D → Option (List ℕ)} {image : D → List ℕ �
   -- a reply without events
   pub answers-only : (disk : D) (store : Seen) (reply : Reply) → Bears (seen disk) store → StoresTurn seen image moment image_since attached faults disk disk store store (turn_with store.setting reply []) (Ok reply)
   answers-only disk store reply place =
-      record { ok = record { reply_is = refl; setting = refl; intact = refl; place = place; stands = λ stands. stands }; err = tt; stores = stores-nothing disk store.setting [] }
+      record { ok = record { reply_is = refl; on = record { setting = refl; intact = refl; place = place; stands = λ stands. stands } }; err = tt; stores = stores-nothing disk store.setting [] }
 
   -- a session moves, and what is stored stays
   pub moves-session : (disk : D) (store now : Seen) (event : Event) → is_stored event ≡ false → now ≡ record store { setting = unstored_after store.setting event } → Bears (seen disk) store →
@@ -101,11 +100,13 @@ module _ {D : Type 0} {seen : D → Option (List ℕ)} {image : D → List ℕ �
       record {
         ok = record {
           reply_is = refl;
-          setting = ap (λ (z : Seen). z.setting) is;
-          intact = ap (λ (z : Seen). z.broken) is;
-          place = subst (λ (z : Seen). Bears (seen disk) z) (sym is) place;
-          stands = λ stands.
-              subst (λ (z : Seen). Stands (seen disk) (image disk) z.setting) (sym is) (stands-same (seen disk) (image disk) store.setting (unstored_after store.setting event) kept stands);
+          on = record {
+            setting = ap (λ (z : Seen). z.setting) is;
+            intact = ap (λ (z : Seen). z.broken) is;
+            place = subst (λ (z : Seen). Bears (seen disk) z) (sym is) place;
+            stands = λ stands.
+                subst (λ (z : Seen). Stands (seen disk) (image disk) z.setting) (sym is) (stands-same (seen disk) (image disk) store.setting (unstored_after store.setting event) kept stands);
+          };
         };
         err = tt;
         stores = stores-nothing disk store.setting [];
@@ -142,10 +143,12 @@ module _ {D : Type 0} {seen : D → Option (List ℕ)} {image : D → List ℕ �
         record {
           ok = record {
             reply_is = ap (λ (t : Turn). t.reply) (sym turn);
-            setting = ap (λ (z : Seen). z.setting) went.ends.store ∙ ap (λ (t : Turn). t.after) (sym turn);
-            intact = ap (λ (z : Seen). z.broken) went.ends.store;
-            place = went.ends.place;
-            stands = went.stands;
+            on = record {
+              setting = ap (λ (z : Seen). z.setting) went.ends.store ∙ ap (λ (t : Turn). t.after) (sym turn);
+              intact = ap (λ (z : Seen). z.broken) went.ends.store;
+              place = went.ends.place;
+              stands = went.stands;
+            };
           };
           err = tt;
           stores = once old new before events false all went.ends.room went.moments went.names went.reported;
@@ -185,10 +188,12 @@ module _ {D : Type 0} {seen : D → Option (List ℕ)} {image : D → List ℕ �
         record {
           ok = record {
             reply_is = ap (λ (t : Turn). t.reply) (sym turn);
-            setting = ap (λ (z : Seen). z.setting) made.store ∙ ap (λ (t : Turn). t.after) (sym turn);
-            intact = ap (λ (z : Seen). z.broken) made.store;
-            place = made.place;
-            stands = went.stands;
+            on = record {
+              setting = ap (λ (z : Seen). z.setting) made.store ∙ ap (λ (t : Turn). t.after) (sym turn);
+              intact = ap (λ (z : Seen). z.broken) made.store;
+              place = made.place;
+              stands = went.stands;
+            };
           };
           err = tt;
           stores = holding before (all_events (saving_turn before.setting ∷ [])) false went.moments went.names went.reported;
@@ -327,10 +332,12 @@ module _ {D : Type 0} {seen : D → Option (List ℕ)} {image : D → List ℕ �
         record {
           ok = record {
             reply_is = ap (λ (t : Turn). t.reply) (sym turn);
-            setting = ap (λ (z : Seen). z.setting) was.store_is ∙ ap (λ (n : ℕ). after_events first.setting (steps n)) all ∙ ap (λ (t : Turn). t.after) (sym turn);
-            intact = ap (λ (z : Seen). z.broken) was.store_is;
-            place = was.place;
-            stands = was.stands;
+            on = record {
+              setting = ap (λ (z : Seen). z.setting) was.store_is ∙ ap (λ (n : ℕ). after_events first.setting (steps n)) all ∙ ap (λ (t : Turn). t.after) (sym turn);
+              intact = ap (λ (z : Seen). z.broken) was.store_is;
+              place = was.place;
+              stands = was.stands;
+            };
           };
           err = tt;
           stores = record { moments = was.moments; names = was.names; reported = was.quiet };
@@ -386,30 +393,25 @@ module _ {D : Type 0} {seen : D → Option (List ℕ)} {image : D → List ℕ �
   stores-due old new setting count due failed room is stores =
       subst (λ (es : List Event). Stores seen image moment image_since attached faults old new setting es failed) (turn-events setting (steps count) room ∙ sym is) stores
 
-  -- all that are due were stored
-  pub due-stored : {old new : D} {before after : Seen} (count : ℕ) (due : List Event) → have_room before.setting (steps count) ≡ true → due ≡ steps count →
-      StoresTurn seen image moment image_since attached faults old new before after (storing_turn before.setting (steps count)) (storing_reply (Ok tt)) → StoresSteps seen image moment image_since attached faults old new before after due (Ok tt)
-  due-stored {old} {new} {before} {after} count due room is went =
+  -- all that are due were stored; or the disk failed or memory ran out, as there is room for all
+  pub due-stored : {old new : D} {before after : Seen} (count : ℕ) (due : List Event) → have_room before.setting (steps count) ≡ true → due ≡ steps count → (result : Result (Unit {0}) StoreFault) →
+      StoresTurn seen image moment image_since attached faults old new before after (storing_turn before.setting (steps count)) (storing_reply result) → StoresSteps seen image moment image_since attached faults old new before after due result
+  due-stored {old} {new} {before} {after} count due room is (Ok done) went =
       let turn = storing-turn before.setting (steps count) true room in
       record {
         ok = record {
-          setting = went.ok.setting ∙ ap (λ (t : Turn). t.after) turn ∙ ap (after_events before.setting) (sym is);
-          intact = went.ok.intact;
-          place = went.ok.place;
-          stands = went.ok.stands;
+          setting = went.ok.on.setting ∙ ap (λ (t : Turn). t.after) turn ∙ ap (after_events before.setting) (sym is);
+          intact = went.ok.on.intact;
+          place = went.ok.on.place;
+          stands = went.ok.on.stands;
         };
         err = tt;
         stores = stores-due old new before.setting count due false room is went.stores;
       }
-
-  -- or the disk failed or memory ran out, as there is room for all
-  pub due-stopped : {old new : D} {before after : Seen} (count : ℕ) (due : List Event) → have_room before.setting (steps count) ≡ true → due ≡ steps count → (reason : StoreFault) →
-      StoresTurn seen image moment image_since attached faults old new before after (storing_turn before.setting (steps count)) (storing_reply (Err reason)) →
-      StoresSteps seen image moment image_since attached faults old new before after due (Err (store_status reason))
-  due-stopped {old} {new} {before} {after} count due room is fault.Full went =
+  due-stored {old} {new} {before} {after} count due room is (Err fault.Full) went =
       let never : Refused (Limit Store) ≡ Lines [] = went.ok.reply_is ∙ ap (λ (t : Turn). t.reply) (storing-turn before.setting (steps count) true room) in
       absurd cc
-  due-stopped {old} {new} {before} {after} count due room is fault.Disk went = record { ok = tt; err = tt; stores = stores-due old new before.setting count due true room is went.stores }
-  due-stopped {old} {new} {before} {after} count due room is fault.Memory went = record { ok = tt; err = tt; stores = stores-due old new before.setting count due false room is went.stores }
-  due-stopped {old} {new} {before} {after} count due room is (fault.NotStore at) went = absurd went.err
-  due-stopped {old} {new} {before} {after} count due room is fault.AlreadyStore went = absurd went.err
+  due-stored {old} {new} {before} {after} count due room is (Err fault.Disk) went = record { ok = tt; err = tt; stores = stores-due old new before.setting count due true room is went.stores }
+  due-stored {old} {new} {before} {after} count due room is (Err fault.Memory) went = record { ok = tt; err = tt; stores = stores-due old new before.setting count due false room is went.stores }
+  due-stored {old} {new} {before} {after} count due room is (Err (fault.NotStore at)) went = absurd went.err
+  due-stored {old} {new} {before} {after} count due room is (Err fault.AlreadyStore) went = absurd went.err

@@ -16,7 +16,7 @@ use Rattle.sem_mounts.specs.declared.faults.AttachFault.TheVariants as attach
 use Rattle.hac_top.specs.Attaching.{AttachesStore, LeavesAttached, MayAttach}
 use Rattle.hac_top.specs.Crashes.{IsOfFile, StopsOpening, opening_outcome}
 use Rattle.hac_top.specs.Ends.{IsOpenStatus, IsStoreStatus, is_bad_space, is_disk_fault}
-use Rattle.hac_top.specs.Run.{Ends, EndsSo, IfOpened, IfOpens, Outside, Ran, TakesWithin, once_open}
+use Rattle.hac_top.specs.Run.{Ends, EndsSo, IfPlays, IsFaultless, Outside, Ran, RunsAnd, RunsFrom, TakesWithin, once_open}
 use Rattle.hac_top.specs.Spaces.{HasAttached, LeavesSpaces, StopsAttaching, attach_status}
 use Rattle.hac_top.specs.declared.status.Status.{Status}
 use Rattle.hac_top.specs.declared.status.Status.TheVariants.{Usage, WriteFault, DiskFault, Memory, BadSpace}
@@ -123,18 +123,24 @@ ends-so wanted Memory un = inr (inr (inr refl))
 ends-so wanted other un = absurd un
 
 -- what holds of a run under a premise holds of it under more
-pub ran-more : (fresh : Bool) (given : Given) (status : Status) (setting : Setting) (script : List ℕ) (before after : Outside) (settled : Type 0) (image : List ℕ → Type 0) (leaves : (List ℕ → Type 0) → Type 0) (less more : Type 0) → (more → less) →
+ran-more : (fresh : Bool) (given : Given) (status : Status) (setting : Setting) (script : List ℕ) (before after : Outside) (settled : Type 0) (image : List ℕ → Type 0) (leaves : (List ℕ → Type 0) → Type 0) (less more : Type 0) → (more → less) →
     Ran fresh given status setting script before after settled image leaves less → Ran fresh given status setting script before after settled image leaves more
 ran-more fresh given status setting script before after settled image leaves less more leads ran = record { played = ran.played; moments = ran.moments; begun = ran.begun; complete = λ none. ran.complete (leads none) }
 
 -- what holds of a run that goes on from a store, once its spaces were attached and given another premise
-pub ran-given : (fresh : Bool) (tick : ℕ) (status : Status) (before after : Outside) (settled : Type 0) (image : List ℕ → Type 0) (leaves : (List ℕ → Type 0) → Type 0) (less more : Type 0) → (more → less) →
-    (old mid new : SpacesSeen) → mid.faults ≡ old.faults → (seen left : Option (List ℕ)) →
-    IfSome seen (λ file. IfSome left (λ script. IfOk (opening_outcome fresh (held file)) (λ setting. IfTold mid new tick setting script (λ given. Ran fresh given status setting script (once_open (loading file) before) after settled image leaves less)))) →
-    IfSome seen (λ file. IfSome left (λ script. IfOk (opening_outcome fresh (held file)) (λ setting. IfTold old new tick setting script (λ given. Ran fresh given status setting script (once_open (loading file) before) after settled image leaves more))))
-ran-given fresh tick status before after settled image leaves less more leads old mid new same seen left ran =
-    told-given fresh tick (λ opening given setting script. Ran fresh given status setting script (once_open opening before) after settled image leaves less) (λ opening given setting script. Ran fresh given status setting script (once_open opening before) after settled image leaves more)
-    (λ opening given setting script. ran-more fresh given status setting script (once_open opening before) after settled image leaves less more leads) old mid new same seen left ran
+pub ran-given : {D : Type 0} (seen : D → Option (List ℕ)) (image : D → List ℕ → Type 0) (moment : D → ℕ) (image_since : D → ℕ → List ℕ → Type 0) (faults : D → ℕ) (old new : D) (spaces mid left : SpacesSeen) → mid.faults ≡ spaces.faults → (asked : Options) (less more : Type 0) → (more → less) →
+    (before after : Outside) (status : Status) (Also : Given → Setting → List ℕ → Type 0) → RunsAnd seen image moment image_since faults old new mid left asked less before after status Also → RunsAnd seen image moment image_since faults old new spaces left asked more before after status Also
+ran-given seen image moment image_since faults old new spaces mid left same asked less more leads before after status Also ran =
+    told-given asked.fresh asked.tick (λ opening given setting script. says less opening given setting script × Also given setting script) (λ opening given setting script. says more opening given setting script × Also given setting script)
+    (λ opening given setting script both.
+    (ran-more asked.fresh given status setting script (once_open opening before) after (IsSettled (seen old) (image old)) (image new) (LeavesOnly moment image_since old new) (less × quiet) (more × quiet) (λ none. (leads none.0, none.1)) both.0, both.1)) spaces mid left same (seen old) before.source.left ran
+  where
+    quiet : Type 0
+    quiet = IsFaultless before after (faults old) (faults new)
+
+    says : Type 0 → ℕ → Given → Setting → List ℕ → Type 0
+    says premise opening given setting script =
+        Ran asked.fresh given status setting script (once_open opening before) after (IsSettled (seen old) (image old)) (image new) (LeavesOnly moment image_since old new) (premise × quiet)
 
 -- a space that couldn't be attached was counted, and no fault was before it
 pub stopped-later : (files : List Space) (old new : SpacesSeen) (status : Status) → StopsAttaching files old new status → old.faults ≤ new.faults
@@ -160,23 +166,25 @@ module _ {D : Type 0} (seen : D → Option (List ℕ)) (image : D → List ℕ �
       by (Err wanted) = (ends-so wanted status un, untouched disk, refl, refl)
 
   -- it answers nothing of the script, and a crash leaves what it would have gone on from
-  pub ran-unattached : (faultless : Type 0) (status : Status) → IsUnattached status → (faultless → is_bad_space status ≡ true → ⊥) → (asked : Options) (disk : D) (before : Outside) (old new : SpacesSeen) → old.faults ≤ new.faults →
-      IfOpened asked (seen disk) before.source.left (λ opens setting script. IfTold old new asked.tick setting script (λ given. Ran asked.fresh given status setting script (once_open opens before) before
-      (IsSettled (seen disk) (image disk)) (image disk) (LeavesOnly moment image_since disk disk) faultless))
-  ran-unattached faultless status un good asked disk before old new later = of-file (seen disk) (opens-quiet seen image moment image_since only_now asked.fresh (seen disk) disk disk (untouched disk))
+  pub ran-unattached : (premise : Type 0) (status : Status) → IsUnattached status → (premise → is_bad_space status ≡ true → ⊥) → (asked : Options) (disk : D) (before : Outside) (old new : SpacesSeen) → old.faults ≤ new.faults →
+      (Also : Given → Setting → List ℕ → Type 0) → ((given : Given) (setting : Setting) (script : List ℕ) → Also given setting script) → RunsAnd seen image moment image_since faults disk disk old new asked premise before before status Also
+  ran-unattached premise status un good asked disk before old new later Also also = of-file (seen disk) (opens-quiet seen image moment image_since only_now asked.fresh (seen disk) disk disk (untouched disk))
     where
       settled : Type 0
       settled = IsSettled (seen disk) (image disk)
 
-      says : ℕ → Setting → List ℕ → Type 0
-      says opens setting script = IfTold old new asked.tick setting script (λ given. Ran asked.fresh given status setting script (once_open opens before) before settled (image disk) (LeavesOnly moment image_since disk disk) faultless)
+      faultless : Type 0
+      faultless = premise × IsFaultless before before (faults disk) (faults disk)
 
-      one : (opens : ℕ) (given : Given) (status : Status) → IsUnattached status → (faultless → is_bad_space status ≡ true → ⊥) → (setting : Setting) (script : List ℕ) → Some script ≡ before.source.left →
+      says : ℕ → Setting → List ℕ → Type 0
+      says opens setting script = IfTold old new asked.tick setting script (λ given. Ran asked.fresh given status setting script (once_open opens before) before settled (image disk) (LeavesOnly moment image_since disk disk) faultless × Also given setting script)
+
+      one : (opens : ℕ) (given : Given) (status : Status) → IsUnattached status → (premise → is_bad_space status ≡ true → ⊥) → (setting : Setting) (script : List ℕ) → Some script ≡ before.source.left →
           Opening seen image moment image_since attached faults asked.fresh settled disk disk setting →
           Ran asked.fresh given status setting script (once_open opens before) before settled (image disk) (LeavesOnly moment image_since disk disk) faultless
       one opens given (BadSpace which line) un good setting script left_is opening =
           ran-none seen image moment image_since attached faults counts_now asked.fresh asked.tick settled disk disk (once_open opens before) before.probes given faultless (BadSpace which line) setting script left_is (omega arith) opening (λ done. tt) (λ never. never)
-          (λ none. absurd (good none refl))
+          (λ none. absurd (good none.0 refl))
       one opens given Memory un good setting script left_is opening =
           ran-none seen image moment image_since attached faults counts_now asked.fresh asked.tick settled disk disk (once_open opens before) before.probes given faultless Memory setting script left_is (omega arith) opening (λ done. tt) (λ never. never)
           (λ _. record { within = λ _. inr refl; past = λ _. inr refl })
@@ -184,7 +192,9 @@ module _ {D : Type 0} (seen : D → Option (List ℕ)) (image : D → List ℕ �
 
       at : (opens : ℕ) (outcome : Result Setting Status) (script : List ℕ) → Some script ≡ before.source.left → IfOk outcome (Opening seen image moment image_since attached faults asked.fresh settled disk disk) → IfOk outcome (λ setting. says opens setting script)
       at opens (Err wanted) script left_is opening = search rules
-      at opens (Ok setting) script left_is opening = told-none old new asked.tick setting script (λ given. Ran asked.fresh given status setting script (once_open opens before) before settled (image disk) (LeavesOnly moment image_since disk disk) faultless) later (λ given. one opens given status un good setting script left_is opening)
+      at opens (Ok setting) script left_is opening =
+          told-none old new asked.tick setting script (λ given. Ran asked.fresh given status setting script (once_open opens before) before settled (image disk) (LeavesOnly moment image_since disk disk) faultless × Also given setting script) later
+          (λ given. (one opens given status un good setting script left_is opening, also given setting script))
 
       of-left : (file : List ℕ) (left : Option (List ℕ)) → left ≡ before.source.left → IfOk (opening_outcome asked.fresh (held file)) (Opening seen image moment image_since attached faults asked.fresh settled disk disk) →
           IfSome left (λ script. IfOk (opening_outcome asked.fresh (held file)) (λ setting. says (loading file) setting script))
@@ -202,11 +212,10 @@ module _ {D : Type 0} (seen : D → Option (List ℕ)) (image : D → List ℕ �
   memory-quiet None disk input output = search rules
   memory-quiet (Some asked) disk input output = unattached-quiet Memory tt asked.fresh disk input output (seen disk)
 
-  pub memory-ran : (faultless : Options → Type 0) (asked : Option Options) (disk : D) (before : Outside) (spaces : SpacesSeen) →
-      IfOpens asked (seen disk) before.source.left (λ asked opens setting script. IfTold spaces spaces asked.tick setting script (λ given. Ran asked.fresh given Memory setting script (once_open opens before) before
-      (IsSettled (seen disk) (image disk)) (image disk) (LeavesOnly moment image_since disk disk) (faultless asked)))
-  memory-ran faultless None disk before spaces = search rules
-  memory-ran faultless (Some asked) disk before spaces = λ _. ran-unattached (faultless asked) Memory tt (λ _ never. cc) asked disk before spaces spaces (omega arith)
+  pub memory-ran : (premise : Options → Type 0) (asked : Option Options) (disk : D) (before : Outside) (spaces : SpacesSeen) →
+      IfPlays asked (λ asked. RunsFrom seen image moment image_since faults disk disk spaces spaces asked (premise asked) before before Memory)
+  memory-ran premise None disk before spaces = search rules
+  memory-ran premise (Some asked) disk before spaces = λ _. ran-unattached (premise asked) Memory tt (λ _ never. cc) asked disk before spaces spaces (omega arith) (λ given setting script. ⊤) (λ given setting script. tt)
 
 pub memory-spaces : (asked : Option Options) (spaces : SpacesSeen) → IfSome asked (λ asked. LeavesSpaces Memory asked.spaces spaces spaces)
 memory-spaces None spaces = search rules

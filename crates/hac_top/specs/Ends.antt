@@ -87,3 +87,8 @@ is_bad_space other = false
 abbrev pub reports_disk : {T : Type 0} → Result T Status → Bool
 reports_disk (Ok value) = false
 reports_disk (Err status) = is_disk_fault status
+
+-- the answer is a fault of the store that comes of a call of the disk that failed
+abbrev pub met_disk_fault : {T : Type 0} → Result T StoreFault → Bool
+met_disk_fault (Ok value) = false
+met_disk_fault (Err fault) = is_disk_fault (store_status fault)

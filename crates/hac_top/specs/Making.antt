@@ -15,7 +15,7 @@ use Rattle.sem_mounts.specs.Seen.{SpacesSeen}
 use Rattle.hac_top.specs.Asking.{given_by}
 use Rattle.hac_top.specs.Ends.{IsOpenStatus, end_status, is_disk_fault, is_read_fault, is_write_fault}
 use Rattle.hac_top.specs.Replies.{StopsWriting, WritesAll}
-use Rattle.hac_top.specs.Run.{Outside, PlaysOn, PlaysStore}
+use Rattle.hac_top.specs.Run.{Outside, PlaysOn, PlaysStore, RunsAnd}
 use Rattle.hac_top.specs.declared.status.Status.{Status}
 use Rattle.hac_top.specs.declared.status.Status.TheVariants.{Done, SomeRefused, WriteFault, Memory}
 
@@ -40,19 +40,24 @@ Tells Done status s before after = TellsEnd Done status s before after
 Tells SomeRefused status s before after = TellsEnd SomeRefused status s before after
 Tells played status s before after = (status ≡ played) × (after ≡ before)
 
--- The script of a number was played to some end, from a source that had it and to a sink, which both are the run's own and
--- didn't fail. Nothing was taken of the source that the run was given. All terms that were asked of items were asked so.
+-- The devices of a script that is drawn from a number, before it was played and behind: a source that had the script, and
+-- a sink. They are the run's own and didn't fail. All terms that the run asked of items were asked so.
+pub record OwnDevices (number probes probes_now : ℕ) : Type 0 where
+  pub before : Outside
+  pub after : Outside
+  pub script_is : before.source.left ≡ Some (generated number)
+  pub reads : after.source.faults ≡ before.source.faults
+  pub writes : after.sink.faults ≡ before.sink.faults
+  pub begins : before.probes ≡ probes
+  pub asks : probes_now ≤ after.probes
+
+-- the script of a number was played to some end by devices of its own; nothing was taken of the source that the run was
+-- given
 pub record Makes (number : ℕ) (before after : Outside) (Says : Status → Outside → Outside → Type 0) : Type 0 where
   pub played : Status
-  pub own : Outside
-  pub own_after : Outside
-  pub script_is : own.source.left ≡ Some (generated number)
-  pub reads : own_after.source.faults ≡ own.source.faults
-  pub writes : own_after.sink.faults ≡ own.sink.faults
+  pub own : OwnDevices number before.probes after.probes
   pub unread : after.source ≡ before.source
-  pub begins : own.probes ≡ before.probes
-  pub asks : after.probes ≤ own_after.probes
-  pub says : Says played own own_after
+  pub says : Says played own.before own.after
 
 -- the words, if they are known, and the number from which the script is to be drawn, where they have one
 abbrev pub IfMakes : Option Options → (Options → ℕ → Type 0) → Type 0
@@ -64,16 +69,10 @@ pub record PlaysMade {D : Type 0} (seen : D → Option (List ℕ)) (image : D �
     (attached : D → Option (List (List ℕ × Bool))) (faults : D → ℕ) (old new : D)
     (tick : ℕ) (setting : Setting) (number : ℕ) (spaces left : SpacesSeen) (probes probes_now : ℕ)
     (result : Result Bool Status) (kept : Setting) : Type 0 where
-  pub own : Outside
-  pub own_after : Outside
-  pub script_is : own.source.left ≡ Some (generated number)
-  pub reads : own_after.source.faults ≡ own.source.faults
-  pub writes : own_after.sink.faults ≡ own.sink.faults
-  pub begins : own.probes ≡ probes
-  pub asks : probes_now ≤ own_after.probes
+  pub own : OwnDevices number probes probes_now
   pub unread : is_read_fault (end_status result) ≡ false
   pub unwritten : is_write_fault (end_status result) ≡ false
-  pub on : PlaysOn seen image moment image_since attached faults old new tick setting own own_after spaces left result kept
+  pub on : PlaysOn seen image moment image_since attached faults old new tick setting own.before own.after spaces left result kept
 
 -- what is told of the state that a script left, where it was played to its end
 abbrev pub TellsLeft : Result Bool Status → Result Bool Status → State → SinkSeen → SinkSeen → Type 0
@@ -89,14 +88,8 @@ pub record MakesStore {D : Type 0} (seen : D → Option (List ℕ)) (image : D �
     (tick : ℕ) (setting : Setting) (number : ℕ) (before after : SinkSeen) (spaces left : SpacesSeen)
     (probes probes_now : ℕ) (status : Status) : Type 0 where
   pub played : Status
-  pub own : Outside
-  pub own_after : Outside
-  pub script_is : own.source.left ≡ Some (generated number)
-  pub reads : own_after.source.faults ≡ own.source.faults
-  pub writes : own_after.sink.faults ≡ own.sink.faults
-  pub begins : own.probes ≡ probes
-  pub asks : probes_now ≤ own_after.probes
-  pub plays : PlaysStore seen image moment image_since attached faults old new tick setting own own_after spaces left played
+  pub own : OwnDevices number probes probes_now
+  pub plays : PlaysStore seen image moment image_since attached faults old new tick setting own.before own.after spaces left played
   pub tells : IfSome spaces.contents (λ contents.
       Tells played status (left_by setting (play (given_by contents plays.met tick) setting (generated number))).state before after)
   pub opened : IsOpenStatus status
@@ -104,3 +97,13 @@ pub record MakesStore {D : Type 0} (seen : D → Option (List ℕ)) (image : D �
   pub unread : is_read_fault status ≡ false
   pub wrote : ReportsFault (is_write_fault status) before.faults after.faults
   pub passed : (status ≡ WriteFault → ⊥) → before.held_back ≡ 0 → after.held_back ≡ 0
+
+-- What is said of a run whose script is drawn, which its own devices were for `own` to `own_after`, and so ended: it runs
+-- on them as any run does, and then it tells what the script left, with this status.
+abbrev pub RunsMade : {D : Type 0} (seen : D → Option (List ℕ)) (image : D → List ℕ → Type 0)
+    (moment : D → ℕ) (image_since : D → ℕ → List ℕ → Type 0) (faults : D → ℕ) (old new : D)
+    (spaces left : SpacesSeen) (asked : Options) (premise : Type 0) (status : Status) (before after : SinkSeen)
+    (played : Status) (own own_after : Outside) → Type 0
+RunsMade seen image moment image_since faults old new spaces left asked premise status before after played own own_after =
+    RunsAnd seen image moment image_since faults old new spaces left asked premise own own_after played
+    (λ given setting script. Tells played status (left_by setting (play given setting script)).state before after)

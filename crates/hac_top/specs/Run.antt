@@ -5,6 +5,7 @@ use Rattle.std.specs.Io.KnownBytes.{Appends}
 use Rattle.hac_outside.specs.Causes.{Rose, ReportsFault}
 use Rattle.hac_outside.specs.Known.{Known}
 use Rattle.hac_outside.specs.Seen.{SourceSeen, SinkSeen}
+use Rattle.hac_disk.specs.Contents.{IsSettled}
 use Rattle.hac_disk.specs.Images.{LeavesOnly}
 use Rattle.hac_model.specs.Script.CommandLine.{Options}
 use Rattle.hac_model.specs.Run.Costs.{lines_cost}
@@ -20,7 +21,7 @@ use Rattle.hac_store.specs.Stores.{IsHeldAs, Stands}
 use Rattle.hac_top.specs.Crashes.{Holds, IsTreeAfter, IsTreeOfAnswered, Reopens, opening_outcome}
 use Rattle.hac_top.specs.Ends.{IsFinished, IsOpenStatus, end_status, finished_status, is_bad_space, is_disk_fault, is_read_fault, is_write_fault}
 use Rattle.hac_top.specs.Replies.{WritesReplies}
-use Rattle.hac_top.specs.Asking.{HaveAsked, given_by}
+use Rattle.hac_top.specs.Asking.{HaveAsked, IfTold, given_by}
 use Rattle.sem_mounts.specs.Seen.{SpacesSeen}
 use Rattle.hac_top.specs.declared.status.Status.{Status}
 use Rattle.hac_top.specs.declared.status.Status.TheVariants.{Done, SomeRefused, Usage, ReadFault, WriteFault, DiskFault, Memory, TooLong}
@@ -47,10 +48,11 @@ usage_line = ended (codes "usage: hac [--new] [--tick N] [--make NUMBER] STORE [
 abbrev pub AppendsSome : Option (List ℕ) → Option (List ℕ) → List ℕ → Type 0
 AppendsSome old new bytes = (n : ℕ) × Appends old new (take n bytes)
 
--- words are refused: nothing is read, and the usage is written or the sink fails, unless memory runs out
+-- words are refused: nothing is read or asked, and the usage is written or the sink fails, unless memory runs out
 pub record RefusesWords (status : Status) (before after : Outside) : Type 0 where
   pub status_is : (status ≡ Usage) ⊎ ((status ≡ WriteFault) ⊎ (status ≡ Memory))
   pub unread : after.source ≡ before.source
+  pub unasked : after.probes ≡ before.probes
   pub usage : status ≡ Usage → Appends before.sink.written after.sink.written usage_line
   pub some : AppendsSome before.sink.written after.sink.written usage_line
 
@@ -209,11 +211,6 @@ IfOpened asked seen left P =
     IfSome seen (λ file. IfSome left (λ script.
     IfOk (opening_outcome asked.fresh (held file)) (λ setting. P (loading file) setting script)))
 
--- the same of words, if they are known, that ask for no drawn script
-abbrev pub IfOpens : Option Options → Option (List ℕ) → Option (List ℕ) →
-    (Options → ℕ → Setting → List ℕ → Type 0) → Type 0
-IfOpens words seen left P = IfSome words (λ asked. asked.make ≡ None → IfOpened asked seen left (P asked))
-
 -- how many questions finding that may take, if the file is known and holds no store to open
 abbrev pub IfUnopened : Bool → Option (List ℕ) → (ℕ → Type 0) → Type 0
 IfUnopened fresh seen P = IfSome seen (λ file. IfErr (opening_outcome fresh (held file)) (λ _. P (loading file)))
@@ -223,6 +220,32 @@ abbrev pub IsFaultless : Outside → Outside → ℕ → ℕ → Type 0
 IsFaultless before after was now =
     (Rose before.source.faults after.source.faults → ⊥) ×
     (Rose before.sink.faults after.sink.faults → ⊥) × (Rose was now → ⊥)
+
+-- What is said of a run that its words ask for, which found `before` and left `after`, and so ended. Where the disk, the
+-- source and the spaces tell what they hold, and the file holds a store, or none and a new one is asked for, the script
+-- was played from there as `Ran` says, given the spaces and the faults that its commands met; and of these it says `Also`.
+-- The script is played without a fault if moreover the premise holds.
+abbrev pub RunsAnd : {D : Type 0} (seen : D → Option (List ℕ)) (image : D → List ℕ → Type 0)
+    (moment : D → ℕ) (image_since : D → ℕ → List ℕ → Type 0) (faults : D → ℕ) (old new : D)
+    (spaces left : SpacesSeen) (asked : Options) (premise : Type 0) (before after : Outside) (status : Status)
+    (Also : Given → Setting → List ℕ → Type 0) → Type 0
+RunsAnd seen image moment image_since faults old new spaces left asked premise before after status Also =
+    IfOpened asked (seen old) before.source.left (λ opening setting script.
+    IfTold spaces left asked.tick setting script (λ given.
+    Ran asked.fresh given status setting script (once_open opening before) after (IsSettled (seen old) (image old)) (image new)
+    (LeavesOnly moment image_since old new) (premise × IsFaultless before after (faults old) (faults new))
+    × Also given setting script))
+
+-- the same, and nothing else
+abbrev pub RunsFrom : {D : Type 0} (seen : D → Option (List ℕ)) (image : D → List ℕ → Type 0)
+    (moment : D → ℕ) (image_since : D → ℕ → List ℕ → Type 0) (faults : D → ℕ) (old new : D)
+    (spaces left : SpacesSeen) (asked : Options) (premise : Type 0) (before after : Outside) (status : Status) → Type 0
+RunsFrom seen image moment image_since faults old new spaces left asked premise before after status =
+    RunsAnd seen image moment image_since faults old new spaces left asked premise before after status (λ given setting script. ⊤)
+
+-- the words, if they are known, where no script is to be drawn
+abbrev pub IfPlays : Option Options → (Options → Type 0) → Type 0
+IfPlays words P = IfSome words (λ asked. asked.make ≡ None → P asked)
 
 -- a run that no store is open for ends so, unless a space can't be attached, a call of the disk fails or memory runs
 -- out before

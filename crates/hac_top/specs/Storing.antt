@@ -19,9 +19,9 @@ use Rattle.hac_model.specs.declared.replies.Reply.{Reply}
 use Rattle.hac_model.specs.declared.replies.Reply.TheVariants.{Lines, Refused}
 use Rattle.hac_store.specs.Stores.{Bears, Seen, Stands}
 use Rattle.hac_store.specs.declared.fault.StoreFault.{StoreFault}
-use Rattle.hac_store.specs.declared.fault.StoreFault.TheVariants.{Full}
+use Rattle.hac_store.specs.declared.fault.StoreFault.TheVariants as fault
 use Rattle.hac_top.specs.Crashes.{Holds, IsTreeAfter, IsTreeOfAnswered}
-use Rattle.hac_top.specs.Ends.{is_disk_fault, store_status, reports_disk}
+use Rattle.hac_top.specs.Ends.{is_disk_fault, met_disk_fault, store_status, reports_disk}
 use Rattle.hac_top.specs.Replies.{CutsWriting, WritesAll}
 use Rattle.hac_top.specs.Ticking.{command_events}
 use Rattle.hac_top.specs.declared.status.Status.{Status}
@@ -30,8 +30,8 @@ use Rattle.hac_top.specs.declared.status.Status.TheVariants.{WriteFault, DiskFau
 -- the reply to a command whose events were to be stored, given how that ended
 abbrev pub storing_reply : Result Unit StoreFault → Result Reply Status
 storing_reply (Ok _) = Ok (Lines [])
-storing_reply (Err Full) = Ok (Refused (Limit Store))
-storing_reply (Err fault) = Err (store_status fault)
+storing_reply (Err fault.Full) = Ok (Refused (Limit Store))
+storing_reply (Err reason) = Err (store_status reason)
 
 -- What became of the disk while a store went on by events: a crash at any moment leaves the tree after some of them.
 -- A call of the disk that failed is reported, and no other.
@@ -44,16 +44,28 @@ pub record Stores {D : Type 0} (seen : D → Option (List ℕ)) (image : D → L
   pub names : attached new ≡ attached old
   pub reported : ReportsFault failed (faults old) (faults new)
 
+-- index steps are stopped by the disk, or because memory ran out: none is tried for which there is no room
+abbrev pub StopsSteps : StoreFault → Type 0
+StopsSteps fault.Disk = ⊤
+StopsSteps fault.Memory = ⊤
+StopsSteps other = ⊥
+
 -- a command is stopped by the disk, or because memory ran out
 abbrev pub StopsCommand : Status → Type 0
 StopsCommand DiskFault = ⊤
 StopsCommand Memory = ⊤
 StopsCommand other = ⊥
 
--- the store has gone on by these events, which are stored
+-- the store can go on: no write of it failed, and the disk bears it
+pub record IsUsable (seen : Option (List ℕ)) (store : Seen) : Type 0 where
+  pub intact : store.broken ≡ false
+  pub place : Bears seen store
+
+-- The store has gone on to this setting. It can go on as before, and if the disk stood for what it was, the disk stands
+-- for what it is.
 pub record HasGoneOn {D : Type 0} (seen : D → Option (List ℕ)) (image : D → List ℕ → Type 0) (old new : D)
-    (before after : Seen) (events : List Event) : Type 0 where
-  pub setting : after.setting ≡ after_events before.setting events
+    (before after : Seen) (setting : Setting) : Type 0 where
+  pub setting : after.setting ≡ setting
   pub intact : after.broken ≡ before.broken
   pub place : Bears (seen new) after
   pub stands : Stands (seen old) (image old) before.setting → Stands (seen new) (image new) after.setting
@@ -62,10 +74,7 @@ pub record HasGoneOn {D : Type 0} (seen : D → Option (List ℕ)) (image : D �
 pub record HasStored {D : Type 0} (seen : D → Option (List ℕ)) (image : D → List ℕ → Type 0) (old new : D)
     (before after : Seen) (turn : Turn) (reply : Reply) : Type 0 where
   pub reply_is : reply ≡ turn.reply
-  pub setting : after.setting ≡ turn.after
-  pub intact : after.broken ≡ before.broken
-  pub place : Bears (seen new) after
-  pub stands : Stands (seen old) (image old) before.setting → Stands (seen new) (image new) after.setting
+  pub on : HasGoneOn seen image old new before after turn.after
 
 -- what storing a turn does
 pub record StoresTurn {D : Type 0} (seen : D → Option (List ℕ)) (image : D → List ℕ → Type 0)
@@ -82,20 +91,17 @@ pub record AnswersLine {D : Type 0} (seen : D → Option (List ℕ)) (image : D 
     (attached : D → Option (List (List ℕ × Bool))) (faults : D → ℕ) (old new : D)
     (before after : Seen) (sink sink_after : SinkSeen) (answered : List Turn) : Type 0 where
   pub replies : WritesAll sink sink_after (turns_text answered)
-  pub setting : after.setting ≡ left_by before.setting answered
-  pub intact : after.broken ≡ before.broken
-  pub place : Bears (seen new) after
-  pub stands : Stands (seen old) (image old) before.setting → Stands (seen new) (image new) after.setting
+  pub on : HasGoneOn seen image old new before after (left_by before.setting answered)
   pub stores : Stores seen image moment image_since attached faults old new before.setting (all_events answered) false
 
 -- What storing the index steps behind a command does: all of them are stored, or the disk failed or memory ran out.
 pub record StoresSteps {D : Type 0} (seen : D → Option (List ℕ)) (image : D → List ℕ → Type 0)
     (moment : D → ℕ) (image_since : D → ℕ → List ℕ → Type 0)
     (attached : D → Option (List (List ℕ × Bool))) (faults : D → ℕ) (old new : D)
-    (before after : Seen) (steps : List Event) (result : Result Unit Status) : Type 0 where
-  pub ok : OnOk result (HasGoneOn seen image old new before after steps)
-  pub err : IfErr result StopsCommand
-  pub stores : Stores seen image moment image_since attached faults old new before.setting steps (reports_disk result)
+    (before after : Seen) (steps : List Event) (result : Result Unit StoreFault) : Type 0 where
+  pub ok : OnOk result (HasGoneOn seen image old new before after (after_events before.setting steps))
+  pub err : IfErr result StopsSteps
+  pub stores : Stores seen image moment image_since attached faults old new before.setting steps (met_disk_fault result)
 
 -- An answer stopped before its reply was written whole and passed on, and no step follows it. If the sink failed, the
 -- events of the command were stored before.

@@ -1,6 +1,6 @@
 //! Answering: what a line changes is stored, then its reply is written and flushed, and behind it
 //! the index steps are stored that follow each command by themselves.
-ghost use Rattle.std.specs.Prelude.{◌≡◌, ◌||◌, ◌+◌, ◌≤◌, ◌∷◌, [], false, IfErr, OnErr, OnOk};
+ghost use Rattle.std.specs.Prelude.{◌≡◌, ◌||◌, ◌+◌, ◌≤◌, ◌∷◌, [], IfErr, OnErr, OnOk};
 ghost use Rattle.std.specs.Io.KnownBytes.{Appends};
 ghost use Rattle.hac_outside.specs.Causes.{HasCause};
 ghost use Rattle.hac_outside.specs.Seen.{WritesSome};
@@ -8,13 +8,12 @@ ghost use Rattle.hac_model.specs.Run.Play.{is_refused, steps_behind};
 ghost use Rattle.hac_model.specs.Script.Lines.{item_taken};
 ghost use Rattle.hac_model.specs.Script.Printed.{text};
 ghost use Rattle.hac_model.specs.Tree.Costs.{costs};
-ghost use Rattle.hac_store.specs.Stores.{Bears};
-ghost use Rattle.hac_top.specs.Storing.{AnswersItems, AnswersLine, StopsAnswer};
+ghost use Rattle.hac_top.specs.Storing.{AnswersItems, AnswersLine, IsUsable, StopsAnswer};
 ghost use Rattle.hac_top.specs.TakenLines.{items_of_taken};
 ghost use Rattle.hac_top.specs.Replies.{StopsWriting, WritesAll};
 ghost use Rattle.hac_top.specs.Ticking.{told_turn};
 
-use crate::status::Status;
+use crate::status::{Status, store_status};
 use crate::storing::store_line;
 use crate::taking::TakenLine;
 use crate::ticking::tick;
@@ -52,8 +51,7 @@ impl Player {
         line: TakenLine,
         probes: &mut Steps<L>,
     ) -> Result<(), Status>
-        requires intact { self.old.store.broken ≡ false }
-        requires place { Bears (D.seen disk.old) self.old.store }
+        requires { IsUsable (D.seen disk.old) self.old.store }
         ensures tick { self.new.tick ≡ self.old.tick }
         ensures answers { AnswersItems D.seen D.image D.moment D.image_since D.attached D.faults
             disk.old disk.new (P.seen spaces.old) (P.seen spaces.new) self.old.tick
@@ -83,8 +81,7 @@ impl Player {
         taken: Option<Taken>,
         probes: &mut Steps<L>,
     ) -> Result<(), Status>
-        requires intact { self.old.store.broken ≡ false }
-        requires place { Bears (D.seen disk.old) self.old.store }
+        requires { IsUsable (D.seen disk.old) self.old.store }
         ensures tick { self.new.tick ≡ self.old.tick }
         ensures answers { AnswersItems D.seen D.image D.moment D.image_since D.attached D.faults
             disk.old disk.new (P.seen spaces.old) (P.seen spaces.new) self.old.tick
@@ -112,8 +109,7 @@ impl Player {
         reply: Reply,
         probes: &mut Steps<L>,
     ) -> Result<(), Status>
-        requires intact { self.old.store.broken ≡ false }
-        requires place { Bears (D.seen disk.old) self.old.store }
+        requires { IsUsable (D.seen disk.old) self.old.store }
         ensures tick { self.new.tick ≡ self.old.tick }
         ensures refused { OnOk result (self.new.refused ≡ (self.old.refused || is_refused reply)) }
         ensures ok { OnOk result (AnswersLine D.seen D.image D.moment D.image_since D.attached
@@ -128,7 +124,10 @@ impl Player {
             (steps_behind self.old.tick self.old.store.setting) }
     {
         self.write_reply(output, reply)?;
-        tick(&mut self.store, disk, self.tick, probes)
+        match tick(&mut self.store, disk, self.tick, probes) {
+            Ok(()) => Ok(()),
+            Err(fault) => Err(store_status(fault)),
+        }
     }
 
     /// Writes a reply, and flushes it.

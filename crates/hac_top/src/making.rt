@@ -3,8 +3,8 @@ ghost use Rattle.std.specs.Prelude.{◌≡◌, ◌≤◌, false, IfOk, codes};
 ghost use Rattle.hac_model.specs.Run.Given.{no_answers};
 ghost use Rattle.hac_model.specs.declared.commands.Command.TheVariants as command;
 ghost use Rattle.hac_model.specs.declared.replies.Deny.TheVariants as denied;
-ghost use Rattle.hac_store.specs.Stores.{Bears};
 ghost use Rattle.hac_top.specs.Making.{MakesStore, PlaysMade, TellsLeft, counts_reply};
+ghost use Rattle.hac_top.specs.Storing.{IsUsable};
 
 use crate::answering::Player;
 use crate::devices::{ScriptSource, Unwritten};
@@ -14,7 +14,6 @@ use hac_core::Machine;
 use hac_disk::Disk;
 use hac_model::{Answers, Command, Deny, Line, Memory, Name, Reply, Seq};
 use hac_outside::{Sink, Steps};
-use hac_store::Store;
 use script_maker::make_script;
 use sem_mounts::Spaces;
 use std::alloc::Global;
@@ -22,36 +21,27 @@ use std::sync::ledger::Ledger;
 
 /// Plays the script of a number on a store that was opened, and then writes the reply to `counts`.
 pub fn make_store<K: Sink, D: Disk, P: Spaces, L: Ledger>(
-    alloc: Global,
-    store: Store,
-    tick: u64,
+    mut player: Player,
     number: u64,
     output: &mut K,
     disk: &mut D,
     spaces: &mut P,
     probes: &mut Steps<L>,
 ) -> Status
-    requires intact { store.broken ≡ false }
-    requires place { Bears (D.seen disk.old) store }
+    requires begun { player.refused ≡ false }
+    requires usable { IsUsable (D.seen disk.old) player.store }
     ensures { MakesStore D.seen D.image D.moment D.image_since D.attached D.faults disk.old disk.new
-        tick store.setting number (K.seen output.old) (K.seen output.new) (P.seen spaces.old)
+        player.tick player.store.setting number (K.seen output.old) (K.seen output.new) (P.seen spaces.old)
         (P.seen spaces.new) probes.old probes.new result }
 {
-    let mut player = Player {
-        alloc,
-        store,
-        tick,
-        refused: false,
-    };
-    let played = play_made(alloc, &mut player, number, disk, spaces, probes);
-    let told = tell_counts(alloc, &mut player, output, played, probes);
+    let played = play_made(&mut player, number, disk, spaces, probes);
+    let told = tell_counts(&mut player, output, played, probes);
     drop(player);
     end_status(told)
 }
 
 // Plays the script of a number to its end. None of its replies is kept.
 fn play_made<D: Disk, P: Spaces, L: Ledger>(
-    alloc: Global,
     player: &mut Player,
     number: u64,
     disk: &mut D,
@@ -59,20 +49,18 @@ fn play_made<D: Disk, P: Spaces, L: Ledger>(
     probes: &mut Steps<L>,
 ) -> Result<bool, Status>
     requires begun { player.old.refused ≡ false }
-    requires intact { player.old.store.broken ≡ false }
-    requires place { Bears (D.seen disk.old) player.old.store }
+    requires usable { IsUsable (D.seen disk.old) player.old.store }
     ensures { PlaysMade D.seen D.image D.moment D.image_since D.attached D.faults disk.old disk.new
         player.old.tick player.old.store.setting number (P.seen spaces.old) (P.seen spaces.new)
         probes.old probes.new result player.new.store.setting }
 {
-    let mut source = ScriptSource::new(make_script(alloc, number)?);
+    let mut source = ScriptSource::new(make_script(player.alloc, number)?);
     let mut sink = Unwritten;
-    play_script(alloc, player, &mut source, &mut sink, disk, spaces, probes)
+    play_script(player, &mut source, &mut sink, disk, spaces, probes)
 }
 
 // Writes the reply to `counts`, where the script was played to its end.
 fn tell_counts<K: Sink, L: Ledger>(
-    alloc: Global,
     player: &mut Player,
     output: &mut K,
     played: Result<bool, Status>,
@@ -83,7 +71,7 @@ fn tell_counts<K: Sink, L: Ledger>(
     ensures probes { probes.new ≤ probes.old }
 {
     let refused = played?;
-    let reply = counts_reply(alloc, player.store.machine(), probes)?;
+    let reply = counts_reply(player.alloc, player.store.machine(), probes)?;
     player.write_reply(output, reply)?;
     Ok(refused)
 }

@@ -1,17 +1,18 @@
 //! Opening: the file of the store is attached, and the store that it holds is loaded, or a new one
 //! is made.
-ghost use Rattle.std.specs.Prelude.{◌≡◌, ◌+◌, ◌≤◌, false, Err, IfOk, IfErr, IfSome};
+ghost use Rattle.std.specs.Prelude.{◌≡◌, ◌+◌, ◌≤◌, Err, IfOk, IfErr, IfSome};
 ghost use Rattle.hac_disk.specs.Images.{IsQuiet, LeavesOnly};
 ghost use Rattle.hac_disk.specs.Contents.{IsSettled};
 ghost use Rattle.hac_outside.specs.Causes.{ReportsFault};
 ghost use Rattle.hac_model.specs.Tree.Sessions.{stored};
 ghost use Rattle.hac_store.specs.Held.{held};
 ghost use Rattle.hac_store.specs.Loading.{loading};
-ghost use Rattle.hac_store.specs.Stores.{Bears, Stands};
+ghost use Rattle.hac_store.specs.Stores.{Stands};
 ghost use Rattle.hac_top.specs.Attaching.{AttachesStore, MayAttach};
 ghost use Rattle.hac_top.specs.Crashes.{IsOpened, Reopens, StopsOpening, opening_outcome};
 ghost use Rattle.hac_top.specs.Crashes.{opening_result};
 ghost use Rattle.hac_top.specs.Ends.{reports_disk};
+ghost use Rattle.hac_top.specs.Storing.{IsUsable};
 ghost use Rattle.command_line.specs.Words.{asked_of};
 
 use crate::status::{Status, store_status};
@@ -31,8 +32,7 @@ pub fn open_store<D: Disk, L: Ledger>(
 ) -> Result<Store, Status>
     ensures opened { IfSome (D.seen disk.old) (λ file. IsOpened result
         (opening_outcome options.now.fresh (held file))) }
-    ensures intact { IfOk result (λ store. store.broken ≡ false) }
-    ensures place { IfOk result (λ store. Bears (D.seen disk.new) store) }
+    ensures usable { IfOk result (IsUsable (D.seen disk.new)) }
     ensures stands { IfSome (D.seen disk.old) (λ _. IfOk result
         (λ store. Stands (D.seen disk.new) (D.image disk.new) store.setting)) }
     ensures stops { IfErr result StopsOpening }

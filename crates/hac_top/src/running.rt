@@ -1,26 +1,24 @@
 //! The run: the spaces are attached, the store is opened, and the script that is read, or one that
 //! is drawn, is played on it.
-ghost use Rattle.std.specs.Prelude.{◌≡◌, ◌≤◌, ◌+◌, ◌⊎◌, [], true, false, IfErr, IfSome, None, Some, map};
+ghost use Rattle.std.specs.Prelude.{◌≡◌, ◌≤◌, ◌+◌, ◌⊎◌, ⊤, [], true, false, IfErr, IfSome, None, Some, map};
 ghost use Rattle.std.specs.Prelude.{string_bytes};
 ghost use Rattle.std.specs.Io.KnownBytes.{Appends};
-ghost use Rattle.hac_disk.specs.Images.{IsQuiet, LeavesOnly};
-ghost use Rattle.hac_disk.specs.Contents.{IsSettled};
-ghost use Rattle.hac_model.specs.Run.Play.{left_by, play};
+ghost use Rattle.hac_disk.specs.Images.{IsQuiet};
 ghost use Rattle.hac_model.specs.Script.CommandLine.{options};
 ghost use Rattle.hac_outside.specs.Causes.{ReportsFault};
 ghost use Rattle.hac_store.specs.Held.{held};
-ghost use Rattle.hac_top.specs.Asking.{IfTold, StayAttached};
+ghost use Rattle.hac_top.specs.Asking.{StayAttached};
 ghost use Rattle.hac_top.specs.Attaching.{LeavesAttached};
 ghost use Rattle.hac_top.specs.Crashes.{IsOfFile, opening_outcome};
 ghost use Rattle.hac_top.specs.Ends.{IsStoreStatus, is_bad_space, is_disk_fault};
 ghost use Rattle.hac_top.specs.Ends.{is_write_fault};
-ghost use Rattle.hac_top.specs.Making.{IfMakes, Makes, Tells};
-ghost use Rattle.hac_top.specs.Run.{AppendsSome, Ends, EndsSo, IfOpened, IfOpens, IsFaultless};
-ghost use Rattle.hac_top.specs.Run.{IfUnopened, Ran, RefusesWords, once_open, outside, usage_line};
+ghost use Rattle.hac_top.specs.Making.{IfMakes, Makes, RunsMade};
+ghost use Rattle.hac_top.specs.Run.{AppendsSome, Ends, EndsSo, IfPlays, IfUnopened, RefusesWords};
+ghost use Rattle.hac_top.specs.Run.{RunsFrom, outside, usage_line};
 ghost use Rattle.hac_top.specs.Spaces.{CanAttach, LeavesSpaces};
 ghost use Rattle.command_line.specs.Words.{asked_of};
 
-use crate::answering::write_now;
+use crate::answering::{Player, write_now};
 use crate::attaching::attach_spaces;
 use crate::making::make_store;
 use crate::opening::open_store;
@@ -75,41 +73,29 @@ pub fn run<S: Source, K: Sink, D: Disk, P: Spaces, L: Ledger>(
     ensures spaces { IfSome (options (map string_bytes words.now))
         (λ asked. LeavesSpaces result asked.spaces (P.seen spaces.old) (P.seen spaces.new)) }
     ensures bad_space { is_bad_space result ≡ true →
-        (input.new ≡ input.old) × (output.new ≡ output.old) × (disk.new ≡ disk.old) }
+        (input.new ≡ input.old) × (output.new ≡ output.old) × (disk.new ≡ disk.old) ×
+        (probes.new ≡ probes.old) }
 
     // The replies are those of the tree that the store held, given the documents of the spaces and
     // the faults that its commands met. A crash at any moment leaves that tree after some of the
     // events, at the end those of what was answered, and without a fault the script is played. No
     // more terms are asked of items than opening the store may take, and each line since.
-    ensures ran { IfOpens (options (map string_bytes words.now)) (D.seen disk.old)
-        (S.seen input.old).left
-        (λ asked opening setting script.
-        IfTold (P.seen spaces.old) (P.seen spaces.new) asked.tick setting script
-        (λ given. Ran asked.fresh given result setting script
-        (once_open opening (outside (S.seen input.old) (K.seen output.old) probes.old))
-        (outside (S.seen input.new) (K.seen output.new) probes.new)
-        (IsSettled (D.seen disk.old) (D.image disk.old)) (D.image disk.new)
-        (LeavesOnly D.moment D.image_since disk.old disk.new)
-        (CanAttach asked.spaces (P.seen spaces.old) (P.seen spaces.new) ×
-        IsFaultless (outside (S.seen input.old) (K.seen output.old) probes.old)
-        (outside (S.seen input.new) (K.seen output.new) probes.new)
-        (D.faults disk.old) (D.faults disk.new)))) }
+    ensures ran { IfPlays (options (map string_bytes words.now)) (λ asked. RunsFrom
+        D.seen D.image D.moment D.image_since D.faults disk.old disk.new
+        (P.seen spaces.old) (P.seen spaces.new) asked
+        (CanAttach asked.spaces (P.seen spaces.old) (P.seen spaces.new))
+        (outside (S.seen input.old) (K.seen output.old) probes.old)
+        (outside (S.seen input.new) (K.seen output.new) probes.new) result) }
 
     // Where the script is to be drawn, nothing is read, and the same is true of that script, which
     // is played from a source and to a sink of its own. Then the reply to `counts` is written.
     ensures made { IfMakes (options (map string_bytes words.now)) (λ asked number. Makes number
         (outside (S.seen input.old) (K.seen output.old) probes.old)
         (outside (S.seen input.new) (K.seen output.new) probes.new)
-        (λ played own after. IfOpened asked (D.seen disk.old) own.source.left
-        (λ opening setting script.
-        IfTold (P.seen spaces.old) (P.seen spaces.new) asked.tick setting script
-        (λ given. Ran asked.fresh given played setting script (once_open opening own) after
-        (IsSettled (D.seen disk.old) (D.image disk.old)) (D.image disk.new)
-        (LeavesOnly D.moment D.image_since disk.old disk.new)
-        (CanAttach asked.spaces (P.seen spaces.old) (P.seen spaces.new) ×
-        IsFaultless own after (D.faults disk.old) (D.faults disk.new))
-        × Tells played result (left_by setting (play given setting script)).state
-        (K.seen output.old) (K.seen output.new))))) }
+        (RunsMade D.seen D.image D.moment D.image_since D.faults disk.old disk.new
+        (P.seen spaces.old) (P.seen spaces.new) asked
+        (CanAttach asked.spaces (P.seen spaces.old) (P.seen spaces.new))
+        result (K.seen output.old) (K.seen output.new))) }
 
     // Where the file holds no store, or one though a new one was asked for, it says so and does
     // nothing else.
@@ -158,30 +144,17 @@ fn run_store<S: Source, K: Sink, D: Disk, P: Spaces, L: Ledger>(
 ) -> Status
     requires { (S.seen input.old).ended ≡ false }
     ensures own { IsStoreStatus result }
-    ensures ran { IfOpens (Some (asked_of options.now)) (D.seen disk.old)
-        (S.seen input.old).left
-        (λ asked opening setting script.
-        IfTold (P.seen spaces.old) (P.seen spaces.new) asked.tick setting script
-        (λ given. Ran asked.fresh given result setting script
-        (once_open opening (outside (S.seen input.old) (K.seen output.old) probes.old))
-        (outside (S.seen input.new) (K.seen output.new) probes.new)
-        (IsSettled (D.seen disk.old) (D.image disk.old)) (D.image disk.new)
-        (LeavesOnly D.moment D.image_since disk.old disk.new)
-        (IsFaultless (outside (S.seen input.old) (K.seen output.old) probes.old)
-        (outside (S.seen input.new) (K.seen output.new) probes.new)
-        (D.faults disk.old) (D.faults disk.new)))) }
+    ensures ran { IfPlays (Some (asked_of options.now)) (λ asked. RunsFrom
+        D.seen D.image D.moment D.image_since D.faults disk.old disk.new
+        (P.seen spaces.old) (P.seen spaces.new) asked ⊤
+        (outside (S.seen input.old) (K.seen output.old) probes.old)
+        (outside (S.seen input.new) (K.seen output.new) probes.new) result) }
     ensures made { IfMakes (Some (asked_of options.now)) (λ asked number. Makes number
         (outside (S.seen input.old) (K.seen output.old) probes.old)
         (outside (S.seen input.new) (K.seen output.new) probes.new)
-        (λ played own after. IfOpened asked (D.seen disk.old) own.source.left
-        (λ opening setting script.
-        IfTold (P.seen spaces.old) (P.seen spaces.new) asked.tick setting script
-        (λ given. Ran asked.fresh given played setting script (once_open opening own) after
-        (IsSettled (D.seen disk.old) (D.image disk.old)) (D.image disk.new)
-        (LeavesOnly D.moment D.image_since disk.old disk.new)
-        (IsFaultless own after (D.faults disk.old) (D.faults disk.new))
-        × Tells played result (left_by setting (play given setting script)).state
-        (K.seen output.old) (K.seen output.new))))) }
+        (RunsMade D.seen D.image D.moment D.image_since D.faults disk.old disk.new
+        (P.seen spaces.old) (P.seen spaces.new) asked ⊤
+        result (K.seen output.old) (K.seen output.new))) }
     ensures spaces { StayAttached (P.seen spaces.old) (P.seen spaces.new) }
     ensures unopened { IfSome (D.seen disk.old) (λ file. IfErr
         (opening_outcome options.now.fresh (held file))
@@ -199,12 +172,19 @@ fn run_store<S: Source, K: Sink, D: Disk, P: Spaces, L: Ledger>(
     ensures disk_faults { ReportsFault (is_disk_fault result) (D.faults disk.old)
         (D.faults disk.new) }
 {
-    let tick = options.tick;
     match open_store(alloc, options, disk, probes) {
-        Ok(store) => match options.make {
-            None => play_store(alloc, store, tick, input, output, disk, spaces, probes),
-            Some(number) => make_store(alloc, store, tick, number, output, disk, spaces, probes),
-        },
+        Ok(store) => {
+            let player = Player {
+                alloc,
+                store,
+                tick: options.tick,
+                refused: false,
+            };
+            match options.make {
+                None => play_store(player, input, output, disk, spaces, probes),
+                Some(number) => make_store(player, number, output, disk, spaces, probes),
+            }
+        }
         Err(status) => status,
     }
 }

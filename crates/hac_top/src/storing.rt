@@ -1,14 +1,13 @@
 //! Storing: what a line changes is in the store, and then in the tree, before its reply is given.
-ghost use Rattle.std.specs.Prelude.{◌≡◌, ◌+◌, ◌≤◌, false, replicate};
+ghost use Rattle.std.specs.Prelude.{◌≡◌, ◌+◌, ◌≤◌, replicate};
 ghost use Rattle.hac_core.specs.Drafts.{CanSettle};
 ghost use Rattle.hac_model.specs.Laws.{AllHappen};
 ghost use Rattle.hac_model.specs.Script.Lines.{item_taken};
 ghost use Rattle.hac_model.specs.Tree.Costs.{costs};
 ghost use Rattle.hac_model.specs.declared.events.Event.TheVariants as event;
-ghost use Rattle.hac_store.specs.Stores.{Bears};
 ghost use Rattle.hac_store.specs.Storing.{storing_cost};
 ghost use Rattle.hac_top.specs.Deciding.{settled_turn, storing_turn};
-ghost use Rattle.hac_top.specs.Storing.{StoresItem, StoresTurn, storing_reply};
+ghost use Rattle.hac_top.specs.Storing.{IsUsable, StoresItem, StoresTurn, storing_reply};
 
 use crate::deciding::{Decision, decide};
 use crate::status::{Status, store_status};
@@ -38,8 +37,7 @@ pub fn store_line<D: Disk, P: Spaces, L: Ledger>(
     taken: Option<Taken>,
     probes: &mut Steps<L>,
 ) -> Result<Reply, Status>
-    requires intact { store.old.broken ≡ false }
-    requires place { Bears (D.seen disk.old) store.old }
+    requires { IsUsable (D.seen disk.old) store.old }
     ensures { StoresItem D.seen D.image D.moment D.image_since D.attached D.faults disk.old disk.new
         (P.seen spaces.old) (P.seen spaces.new) store.old store.new (item_taken line taken)
         probes.old probes.new result }
@@ -72,8 +70,7 @@ fn store_events<D: Disk, L: Ledger>(
     settled: Settled,
     probes: &mut Steps<L>,
 ) -> Result<(), StoreFault>
-    requires intact { store.old.broken ≡ false }
-    requires place { Bears (D.seen disk.old) store.old }
+    requires usable { IsUsable (D.seen disk.old) store.old }
     requires can { CanSettle store.old.setting.state settled }
     ensures stores { StoresTurn D.seen D.image D.moment D.image_since D.attached D.faults disk.old
         disk.new store.old store.new (settled_turn store.old.setting settled)
@@ -97,8 +94,7 @@ pub fn store_steps<D: Disk, L: Ledger>(
     count: u64,
     probes: &mut Steps<L>,
 ) -> Result<(), StoreFault>
-    requires intact { store.old.broken ≡ false }
-    requires place { Bears (D.seen disk.old) store.old }
+    requires usable { IsUsable (D.seen disk.old) store.old }
     requires happen { AllHappen store.old.setting.state (replicate count event.Step) }
     ensures stores { StoresTurn D.seen D.image D.moment D.image_since D.attached D.faults disk.old
         disk.new store.old store.new

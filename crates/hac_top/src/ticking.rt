@@ -4,36 +4,31 @@ ghost use Rattle.hac_model.specs.Laws.{AllHappen};
 ghost use Rattle.hac_model.specs.Run.Play.{have_room, steps_behind};
 ghost use Rattle.hac_model.specs.Tree.Costs.{costs};
 ghost use Rattle.hac_model.specs.declared.events.Event.TheVariants as event;
-ghost use Rattle.hac_store.specs.Stores.{Bears};
-ghost use Rattle.hac_top.specs.Storing.{StoresSteps};
+ghost use Rattle.hac_top.specs.Storing.{IsUsable, StoresSteps};
 
-use crate::status::{Status, store_status};
 use crate::storing::{STEP_BYTES, store_steps};
 use hac_disk::Disk;
 use hac_outside::Steps;
-use hac_store::Store;
+use hac_store::{Store, StoreFault};
 use std::sync::ledger::Ledger;
 
 /// Stores the index steps that follow a command by themselves, and then applies them: at most
-/// `most`, while a file is dirty and the store has room for the record of one more.
+/// `most`, while a file is dirty and the store has room for the record of one more. A step that
+/// doesn't fit isn't tried, so the store is never `Full`.
 pub fn tick<D: Disk, L: Ledger>(
     store: &mut Store,
     disk: &mut D,
     most: u64,
     probes: &mut Steps<L>,
-) -> Result<(), Status>
-    requires intact { store.old.broken ≡ false }
-    requires place { Bears (D.seen disk.old) store.old }
+) -> Result<(), StoreFault>
+    requires { IsUsable (D.seen disk.old) store.old }
     ensures stores { StoresSteps D.seen D.image D.moment D.image_since D.attached D.faults disk.old
         disk.new store.old store.new (steps_behind most store.old.setting) result }
     ensures probes { probes.new ≤ probes.old + costs store.old.setting.state
         (steps_behind most store.old.setting) }
 {
     let count = steps_due(store, most);
-    match store_steps(store, disk, count, probes) {
-        Ok(()) => Ok(()),
-        Err(fault) => Err(store_status(fault)),
-    }
+    store_steps(store, disk, count, probes)
 }
 
 // How many index steps follow a command by themselves, where at most `most` do.

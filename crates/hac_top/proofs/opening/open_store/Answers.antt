@@ -11,7 +11,7 @@ use Rattle.hac_store.specs.declared.fault.StoreFault.TheVariants as fault
 use Rattle.hac_store.specs.Stores.{Stands}
 use Rattle.command_line.specs.Words.{asked_of}
 use Rattle.hac_top.proofs.OpenedLemmas.{opens-attached, opens-new, opens-quiet}
-use Rattle.hac_top.proofs.OpeningLemmas.{attach-then, loaded-opened, loaded-quiet, loaded-stands, made-opened, made-quiet, made-stands, opened-faults, quiet-then, where-fine}
+use Rattle.hac_top.proofs.OpeningLemmas.{attach-then, loaded-opened, loaded-quiet, loaded-stands, loaded-usable, made-opened, made-quiet, made-stands, made-usable, opened-faults, quiet-then, where-fine}
 use Rattle.hac_top.proofs.opening.open_store.Goals as goal
 
 pub returns-then-is_err-clause-any_moment : goal.returns-then-is_err-clause-any_moment
@@ -116,3 +116,9 @@ returns-else-options-clause-probes g c =
 
 pub returns-then-is_err-clause-probes : goal.returns-then-is_err-clause-probes
 returns-then-is_err-clause-probes g c = loaded-none (g.D.Disk.seen c.args.disk.now) c.args.probes.now
+
+pub returns-then-options-clause-usable : goal.returns-then-options-clause-usable
+returns-then-options-clause-usable g c = made-usable (g.D.Disk.seen c.create.new.disk) c.create.result c.opening_result.result c.opening_result.ensures c.create.ensures.made c.create.ensures.place
+
+pub returns-else-options-clause-usable : goal.returns-else-options-clause-usable
+returns-else-options-clause-usable g c = loaded-usable (g.D.Disk.seen c.load.new.disk) c.load.result c.opening_result-else-options.result c.opening_result-else-options.ensures c.load.ensures.sound c.load.ensures.place

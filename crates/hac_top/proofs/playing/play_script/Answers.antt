@@ -10,24 +10,21 @@ returns-in_err-reader g c =
     let before = outside (g.S.Source.seen c.args.input.now) (g.K.Sink.seen c.args.output.now) c.args.probes.now in
     let stop = err_from_is_err_and c.from_residual.result c.from_residual.ensures.1 in
     rw (stop.1 ∙ ap Err stop.2)
-    (on-stop (runs-begin g.met.D.Disk.only_now c.args.disk.now c.args.player.now.tick before (g.P.Spaces.seen c.args.spaces.now) fresh_reader c.args.player.now.store c.args.player.now.refused refl c.requires.source c.requires.begun c.requires.intact c.requires.place) (stops-unread before.source))
+    (on-stop (runs-begin g.met.D.Disk.only_now c.args.disk.now c.args.player.now.tick before (g.P.Spaces.seen c.args.spaces.now) fresh_reader c.args.player.now.store c.args.player.now.refused refl c.requires.source c.requires.begun c.requires.usable) (stops-unread before.source))
 
 pub lines-init : goal.lines-init
 lines-init g c =
     let before = outside (g.S.Source.seen c.args.input.now) (g.K.Sink.seen c.args.output.now) c.args.probes.now in
     record {
-      on = runs-begin g.met.D.Disk.only_now c.args.disk.now c.args.player.now.tick before (g.P.Spaces.seen c.args.spaces.now) c.in_ok-reader.reader c.args.player.now.store c.args.player.now.refused c.in_ok-reader.ensures c.requires.source c.requires.begun c.requires.intact c.requires.place;
+      on = runs-begin g.met.D.Disk.only_now c.args.disk.now c.args.player.now.tick before (g.P.Spaces.seen c.args.spaces.now) c.in_ok-reader.reader c.args.player.now.store c.args.player.now.refused c.in_ok-reader.ensures c.requires.source c.requires.begun c.requires.usable;
       tick = refl;
     }
 
 pub take_line-requires : goal.take_line-requires
 take_line-requires g c = c.lines.invariant.on.reads
 
-pub answer-requires-clause-intact : goal.answer-requires-clause-intact
-answer-requires-clause-intact g c = c.lines.invariant.on.intact
-
-pub answer-requires-clause-place : goal.answer-requires-clause-place
-answer-requires-clause-place g c = c.lines.invariant.on.place
+pub answer-requires : goal.answer-requires
+answer-requires g c = c.lines.invariant.on.usable
 
 pub returns-in_err-line : goal.returns-in_err-line
 returns-in_err-line g c =

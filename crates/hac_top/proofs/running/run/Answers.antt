@@ -1,9 +1,8 @@
 use Rattle.std.proofs.Common.{subst, map, string_bytes}
-use Rattle.hac_disk.specs.Contents.{IsSettled}
-use Rattle.hac_disk.specs.Images.{LeavesOnly}
+use Rattle.std.specs.Prelude.{⊤}
 use Rattle.hac_model.specs.Script.CommandLine.{options}
 use Rattle.hac_top.specs.Ends.{IsStoreStatus}
-use Rattle.hac_top.specs.Run.{IsFaultless, outside}
+use Rattle.hac_top.specs.Run.{outside}
 use Rattle.hac_top.specs.Spaces.{CanAttach, HasAttached, StopsAttaching}
 use Rattle.command_line.specs.Words.{asked_of, spaces_asked}
 use Rattle.command_line.proofs.WordNames.{asked-differ}
@@ -28,10 +27,9 @@ pub returns-in-Err-Memory-clause-ran : goal.returns-in-Err-Memory-clause-ran
 returns-in-Err-Memory-clause-ran g c =
     let disk = g.D.Disk in
     let before = outside (g.S.Source.seen c.args.input.now) (g.K.Sink.seen c.args.output.now) c.args.probes.now in
-    let faults = disk.faults c.args.disk.now in
     let spaces = g.P.Spaces.seen c.args.spaces.now in
     memory-ran disk.seen disk.image disk.moment disk.image_since disk.attached disk.faults g.met.D.Disk.only_now g.met.D.Disk.counts_now
-    (λ asked. CanAttach asked.spaces spaces spaces × IsFaultless before before faults faults) (options (map string_bytes c.args.words.now)) c.args.disk.now before spaces
+    (λ asked. CanAttach asked.spaces spaces spaces) (options (map string_bytes c.args.words.now)) c.args.disk.now before spaces
 
 pub returns-in-Err-Memory-clause-unopened : goal.returns-in-Err-Memory-clause-unopened
 returns-in-Err-Memory-clause-unopened g c =
@@ -65,14 +63,11 @@ returns-in-Ok-attach_spaces-clause-ran g c =
     let seen = g.P.Spaces.seen in
     let before = outside (g.S.Source.seen c.args.input.now) (g.K.Sink.seen c.args.output.now) c.args.probes.now in
     let after = outside (g.S.Source.seen c.run_store.new.input) (g.K.Sink.seen c.run_store.new.output) c.run_store.new.probes in
-    let faultless = IsFaultless before after (disk.faults c.args.disk.now) (disk.faults c.run_store.new.disk) in
-    let can = CanAttach (spaces_asked c.in-Ok.options.spaces.items) (seen c.args.spaces.now) (seen c.run_store.new.spaces) in
-    let has : HasAttached (spaces_asked c.in-Ok.options.spaces.items) (seen c.args.spaces.now) (seen c.attach_spaces.new.spaces) = rw c.deref.ensures.value at c.in-Ok-attach_spaces.ensures.ok in
-    let old = c.args.disk.now in
-    let new = c.run_store.new.disk in
+    let files = spaces_asked c.in-Ok.options.spaces.items in
+    let has : HasAttached files (seen c.args.spaces.now) (seen c.attach_spaces.new.spaces) = rw c.deref.ensures.value at c.in-Ok-attach_spaces.ensures.ok in
     rw c.in-Ok.ensures.read
-    (λ reads. ran-given c.in-Ok.options.fresh c.in-Ok.options.tick c.run_store.result before after (IsSettled (disk.seen old) (disk.image old)) (disk.image new) (LeavesOnly disk.moment disk.image_since old new) faultless (can × faultless) (λ given. given.1)
-    (seen c.args.spaces.now) (seen c.attach_spaces.new.spaces) (seen c.run_store.new.spaces) has.faults (disk.seen old) before.source.left (c.run_store.ensures.ran reads))
+    (λ reads. ran-given disk.seen disk.image disk.moment disk.image_since disk.faults c.args.disk.now c.run_store.new.disk (seen c.args.spaces.now) (seen c.attach_spaces.new.spaces) (seen c.run_store.new.spaces) has.faults (asked_of c.in-Ok.options)
+    ⊤ (CanAttach files (seen c.args.spaces.now) (seen c.run_store.new.spaces)) (λ _. tt) before after c.run_store.result (λ given setting script. ⊤) (c.run_store.ensures.ran reads))
 
 pub returns-in-Ok-attach_spaces-clause-unopened : goal.returns-in-Ok-attach_spaces-clause-unopened
 returns-in-Ok-attach_spaces-clause-unopened g c = rw c.in-Ok.ensures.read c.run_store.ensures.unopened
@@ -106,11 +101,10 @@ returns-clause-ran g c =
     let new = seen c.attach_spaces.new.spaces in
     let files = spaces_asked c.in-Ok.options.spaces.items in
     let before = outside (g.S.Source.seen c.args.input.now) (g.K.Sink.seen c.args.output.now) c.args.probes.now in
-    let faults = disk.faults c.args.disk.now in
     let stops : StopsAttaching files old new c.in-Err.status = rw c.deref.ensures.value at c.in-Err.ensures.err in
     rw c.in-Ok.ensures.read
-    (λ _. ran-unattached disk.seen disk.image disk.moment disk.image_since disk.attached disk.faults g.met.D.Disk.only_now g.met.D.Disk.counts_now (CanAttach files old new × IsFaultless before before faults faults)
-    c.in-Err.status (is-unattached files old new c.in-Err.status stops) (λ given bad. not-bad files old new c.in-Err.status stops given.0 bad) (asked_of c.in-Ok.options) c.args.disk.now before old new (stopped-later files old new c.in-Err.status stops))
+    (λ _. ran-unattached disk.seen disk.image disk.moment disk.image_since disk.attached disk.faults g.met.D.Disk.only_now g.met.D.Disk.counts_now (CanAttach files old new) c.in-Err.status (is-unattached files old new c.in-Err.status stops)
+    (not-bad files old new c.in-Err.status stops) (asked_of c.in-Ok.options) c.args.disk.now before old new (stopped-later files old new c.in-Err.status stops) (λ given setting script. ⊤) (λ given setting script. tt))
 
 pub returns-clause-unopened : goal.returns-clause-unopened
 returns-clause-unopened g c =
@@ -146,10 +140,9 @@ returns-clause-disk_faults g c =
 pub returns-in-Err-Memory-clause-made : goal.returns-in-Err-Memory-clause-made
 returns-in-Err-Memory-clause-made g c =
     let disk = g.D.Disk in
-    let faults = disk.faults c.args.disk.now in
     let spaces = g.P.Spaces.seen c.args.spaces.now in
     memory-made disk.seen disk.image disk.moment disk.image_since disk.attached disk.faults g.met.D.Disk.only_now g.met.D.Disk.counts_now
-    (λ asked own own_after. CanAttach asked.spaces spaces spaces × IsFaultless own own_after faults faults) (options (map string_bytes c.args.words.now)) c.args.disk.now
+    (λ asked. CanAttach asked.spaces spaces spaces) (options (map string_bytes c.args.words.now)) c.args.disk.now
     (outside (g.S.Source.seen c.args.input.now) (g.K.Sink.seen c.args.output.now) c.args.probes.now) spaces
 
 pub returns-in-Ok-attach_spaces-clause-made : goal.returns-in-Ok-attach_spaces-clause-made
@@ -158,13 +151,10 @@ returns-in-Ok-attach_spaces-clause-made g c =
     let seen = g.P.Spaces.seen in
     let files = spaces_asked c.in-Ok.options.spaces.items in
     let has : HasAttached files (seen c.args.spaces.now) (seen c.attach_spaces.new.spaces) = rw c.deref.ensures.value at c.in-Ok-attach_spaces.ensures.ok in
-    let was = disk.faults c.args.disk.now in
-    let now = disk.faults c.run_store.new.disk in
     rw c.in-Ok.ensures.read
     (made-given disk.seen disk.image disk.moment disk.image_since disk.attached disk.faults g.met.D.Disk.only_now g.met.D.Disk.counts_now (asked_of c.in-Ok.options) c.args.disk.now c.run_store.new.disk
     (outside (g.S.Source.seen c.args.input.now) (g.K.Sink.seen c.args.output.now) c.args.probes.now) (outside (g.S.Source.seen c.run_store.new.input) (g.K.Sink.seen c.run_store.new.output) c.run_store.new.probes)
-    (seen c.args.spaces.now) (seen c.attach_spaces.new.spaces) (seen c.run_store.new.spaces) c.run_store.result (λ own own_after. IsFaultless own own_after was now)
-    (λ own own_after. CanAttach files (seen c.args.spaces.now) (seen c.run_store.new.spaces) × IsFaultless own own_after was now) (λ own own_after given. given.1) has.faults c.in-Ok.options.make c.run_store.ensures.made)
+    (seen c.args.spaces.now) (seen c.attach_spaces.new.spaces) (seen c.run_store.new.spaces) c.run_store.result (CanAttach files (seen c.args.spaces.now) (seen c.run_store.new.spaces)) has.faults c.in-Ok.options.make c.run_store.ensures.made)
 
 pub returns-clause-made : goal.returns-clause-made
 returns-clause-made g c =
@@ -173,12 +163,11 @@ returns-clause-made g c =
     let old = seen c.args.spaces.now in
     let new = seen c.attach_spaces.new.spaces in
     let files = spaces_asked c.in-Ok.options.spaces.items in
-    let faults = disk.faults c.args.disk.now in
     let stops : StopsAttaching files old new c.in-Err.status = rw c.deref.ensures.value at c.in-Err.ensures.err in
     rw c.in-Ok.ensures.read
     (made-unattached disk.seen disk.image disk.moment disk.image_since disk.attached disk.faults g.met.D.Disk.only_now g.met.D.Disk.counts_now
-    (λ own own_after. CanAttach files old new × IsFaultless own own_after faults faults) c.in-Err.status (is-unattached files old new c.in-Err.status stops)
-    (λ own given bad. not-bad files old new c.in-Err.status stops given.0 bad) (asked_of c.in-Ok.options) c.args.disk.now (outside (g.S.Source.seen c.args.input.now) (g.K.Sink.seen c.args.output.now) c.args.probes.now) old new
+    (CanAttach files old new) c.in-Err.status (is-unattached files old new c.in-Err.status stops)
+    (not-bad files old new c.in-Err.status stops) (asked_of c.in-Ok.options) c.args.disk.now (outside (g.S.Source.seen c.args.input.now) (g.K.Sink.seen c.args.output.now) c.args.probes.now) old new
     (stopped-later files old new c.in-Err.status stops) c.in-Ok.options.make)
 
 -- where no store is open, no more is asked than finding that may take

@@ -1,5 +1,5 @@
 use Rattle.std.proofs.Common.{◌∙◌, ap, refl, sym, arith, rules, true≢false, ℕ, ◌≤◌, ◌+◌}
-use Rattle.std.specs.Prelude.{is_some}
+use Rattle.std.specs.Prelude.{⊤, is_some}
 use Rattle.hac_disk.specs.Contents.{IsSettled}
 use Rattle.hac_top.specs.Run.{outside}
 use Rattle.command_line.specs.Words.{asked_of}
@@ -33,10 +33,9 @@ returns-in-Err-clause-own g c = unopened-own c.in-Err.status c.in-Err.ensures.st
 pub returns-in-Err-clause-ran : goal.returns-in-Err-clause-ran
 returns-in-Err-clause-ran g c =
     let disk = g.D.Disk in
-    let old = c.args.disk.now in
     let before = outside (g.S.Source.seen c.args.input.now) (g.K.Sink.seen c.args.output.now) c.args.probes.now in
-    λ _. ran-unopened disk.seen disk.image disk.moment disk.image_since disk.attached disk.faults g.met.D.Disk.counts_now c.args.options.now.fresh c.args.options.now.tick (IsSettled (disk.seen old) (disk.image old)) old c.open_store.new.disk before c.open_store.new.probes (g.P.Spaces.seen c.args.spaces.now) c.in-Err.status
-    c.in-Err.ensures.stops c.in-Err.ensures.faults (disk.seen old) c.in-Err.ensures.opened c.open_store.ensures.probes c.in-Err.ensures.any_moment
+    λ _. ran-unopened disk.seen disk.image disk.moment disk.image_since disk.attached disk.faults g.met.D.Disk.counts_now (asked_of c.args.options.now) c.args.disk.now c.open_store.new.disk before c.open_store.new.probes (g.P.Spaces.seen c.args.spaces.now)
+    (λ given setting script. ⊤) (λ given setting script. tt) c.in-Err.status c.in-Err.ensures.stops c.in-Err.ensures.faults c.in-Err.ensures.opened c.open_store.ensures.probes c.in-Err.ensures.any_moment
 
 pub returns-in-Err-clause-attached : goal.returns-in-Err-clause-attached
 returns-in-Err-clause-attached g c =

@@ -12,12 +12,12 @@ returns-in-Change-clause-stores g c =
     let can = rw c.in-Change.is at c.requires.can in
     let event : Event = c.in-Change.change.event in
     let all = ap (λ (b : Bool). cond b (event ∷ []) []) can.2 in
-    rw c.in-Change.is (stores-once g.met.D.Disk.only_now c.command.result all c.requires.place c.command.ensures.stores)
+    rw c.in-Change.is (stores-once g.met.D.Disk.only_now c.command.result all c.requires.usable.place c.command.ensures.stores)
 
 pub returns-in_ok-stand-in-Session-clause-stores : goal.returns-in_ok-stand-in-Session-clause-stores
 returns-in_ok-stand-in-Session-clause-stores g c =
     let can = rw c.in-Session.is at c.requires.can in
-    rw c.in-Session.is (moves-session g.met.D.Disk.only_now c.args.disk.now c.args.store.now c.stand.new.self c.in-Session.event can.1 c.in_ok-stand-in-Session.ensures.moved c.requires.place)
+    rw c.in-Session.is (moves-session g.met.D.Disk.only_now c.args.disk.now c.args.store.now c.stand.new.self c.in-Session.event can.1 c.in_ok-stand-in-Session.ensures.moved c.requires.usable.place)
 
 pub returns-in_err-stand-in-Session-clause-stores : goal.returns-in_err-stand-in-Session-clause-stores
 returns-in_err-stand-in-Session-clause-stores g c =
@@ -25,7 +25,7 @@ returns-in_err-stand-in-Session-clause-stores g c =
     rw (c.in-Session.is, c.in_err-stand-in-Session.ensures.stayed, stop.1 ∙ ap Err stop.2) (stops-first g.met.D.Disk.only_now c.args.disk.now c.args.store.now (standing_turn c.args.store.now.setting c.in-Session.event))
 
 pub returns-in-Checkpoint-clause-stores : goal.returns-in-Checkpoint-clause-stores
-returns-in-Checkpoint-clause-stores g c = rw c.in-Checkpoint.is (stores-saved g.met.D.Disk.only_now c.checkpoint.result c.requires.place c.checkpoint.ensures)
+returns-in-Checkpoint-clause-stores g c = rw c.in-Checkpoint.is (stores-saved g.met.D.Disk.only_now c.checkpoint.result c.requires.usable.place c.checkpoint.ensures)
 
 pub returns-in-Change-clause-probes : goal.returns-in-Change-clause-probes
 returns-in-Change-clause-probes g c =

@@ -8,13 +8,13 @@ use Rattle.hac_top.proofs.StoringLemmas.{full-turn}
 use Rattle.hac_top.proofs.storing.store_steps.Goals as goal
 
 pub returns-then-not-room_for-clause-stores : goal.returns-then-not-room_for-clause-stores
-returns-then-not-room_for-clause-stores g c = full-turn g.met.D.Disk.only_now c.args.disk.now c.args.store.now (steps c.args.count) c.requires.place (steps-have-room c.args.store.now.setting c.args.count ∙ search rules)
+returns-then-not-room_for-clause-stores g c = full-turn g.met.D.Disk.only_now c.args.disk.now c.args.store.now (steps c.args.count) c.requires.usable.place (steps-have-room c.args.store.now.setting c.args.count ∙ search rules)
 
 pub loop-left-init : goal.loop-left-init
 loop-left-init g c =
     record {
       within = omega arith;
-      so_far = none-stepped g.met.D.Disk.only_now c.args.disk.now c.args.store.now (c.args.count - c.args.count) c.args.count (omega arith) (sym c.room_for.ensures ∙ c.if-not-room_for.false) c.requires.place;
+      so_far = none-stepped g.met.D.Disk.only_now c.args.disk.now c.args.store.now (c.args.count - c.args.count) c.args.count (omega arith) (sym c.room_for.ensures ∙ c.if-not-room_for.false) c.requires.usable.place;
       asks = omega arith;
     }
 

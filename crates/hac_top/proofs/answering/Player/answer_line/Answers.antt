@@ -15,3 +15,9 @@ pub returns-clause-answers : goal.returns-clause-answers
 returns-clause-answers g c =
     item-told c.args.disk.now c.store_line.new.disk c.tell.new.disk (g.P.Spaces.seen c.args.spaces.now) (g.P.Spaces.seen c.store_line.new.spaces) c.args.self.now.store c.store_line.new.store c.tell.new.self.store c.in_ok-reply.reply
     (g.K.Sink.seen c.args.output.now) (g.K.Sink.seen c.tell.new.output) c.args.self.now.tick (item_taken c.args.line c.args.taken) c.args.probes.now c.store_line.new.probes c.tell.new.probes c.in_ok-reply.ensures c.args.self.now.refused c.tell.new.self.refused c.tell.result c.tell.ensures.refused c.tell.ensures.ok c.tell.ensures.err c.tell.ensures.probes
+
+-- the store can go on once the line is stored
+pub tell-requires : goal.tell-requires
+tell-requires g c =
+    let on = c.in_ok-reply.ensures.stores.ok.on in
+    record { intact = on.intact ∙ c.requires.intact; place = on.place }
