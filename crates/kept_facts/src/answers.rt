@@ -218,7 +218,7 @@ pub fn is_among(numbers: &[Number], number: Number) -> bool
 }
 
 /// The answers under a number.
-pub fn list_of(lists: &Lists, mount: Number) -> &[Answer]
+fn list_of(lists: &Lists, mount: Number) -> &[Answer]
     ensures { result.now ≡ list_at lists.now mount }
 {
     match lists.get(&mount.get()) {
