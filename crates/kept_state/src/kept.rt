@@ -66,8 +66,8 @@ impl KeptState {
         })
     }
 
-    /// The state of which these are the parts, as they are made of one that was read. It stands in
-    /// no session's way: sessions begin in the root.
+    /// The state of which these are the parts, as they are made of one that was read. It has no
+    /// sessions: each begins in the root.
     pub fn of_parts(
         alloc: Global,
         tree: Tree,
@@ -182,7 +182,8 @@ impl KeptState {
         &self.parts.graph
     }
 
-    /// The directory through which one would depend on itself that gets a query, if there is any.
+    /// If a directory got this query: the first directory on which it would then depend that
+    /// depends on it, if any.
     pub fn cycle_of_query(
         &self,
         alloc: Global,

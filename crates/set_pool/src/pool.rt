@@ -77,7 +77,7 @@ impl SetPool {
         ensures names { length self.new.lists ≤ length self.old.lists + count }
         ensures same { SameSets self.old self.new }
 
-        // If memory ran out, all is as before.
+        // If memory ran out, no more calls are spare. Names and blocks that were taken stay.
         ensures err { OnErr result (self.new.spare ≡ self.old.spare) }
     {
         let more = count.saturating_sub(self.spare);
