@@ -1,11 +1,11 @@
 //! Which directories depend on some, in an order in which each can be looked at once.
-ghost use Rattle.std.specs.Prelude.{◌≡◌, ◌≢◌, ◌||◌, ◌↔◌, ℕ, [], nat_eq, true, IfOk};
+ghost use Rattle.std.specs.Prelude.{◌≡◌, ◌==◌, ◌≢◌, ◌||◌, ◌↔◌, ℕ, [], length, nat_eq, not, true, IfOk};
 ghost use Rattle.std.specs.List.{list_any};
 ghost use Rattle.std.specs.Option.{option_copied};
 ghost use Rattle.hac_model.specs.Tree.Depends.{Among, NeverReturns};
 ghost use Rattle.indexmap.specs.IndexSet.{contains};
 ghost use Rattle.dep_graph.specs.Graphs.{edges_of, edges_with};
-ghost use Rattle.dep_graph.specs.Searches.{IsCone, IsOrdered};
+ghost use Rattle.dep_graph.specs.Searches.{EachOnce, IsCone, IsOrdered};
 
 use crate::graph::{Graph, NewEdges};
 use hac_model::{Memory, Number};
@@ -16,7 +16,7 @@ impl Graph {
     /// The directories that reach some of these, and those of these that are there, over the edges
     /// as they will be once the next ones are set, if there are any. So where these change, all
     /// that may change with them can be looked at once: each comes behind those of the cone on
-    /// which it depends. It goes once over all edges, however many directories are in the cone.
+    /// which it depends. It goes twice over all edges, however many directories are in the cone.
     pub fn cone(&self, dirs: &[Number], next: Option<&NewEdges>) -> Result<Vec<Number>, Memory>
         requires { NeverReturns (edges_with self.now (option_copied next)) }
         ensures { IfOk result (λ numbers.
@@ -26,12 +26,19 @@ impl Graph {
         self.reaching(dirs, next, ordered.as_slice())
     }
 
-    /// All directories that have edges, and the one that is ready for some, if there is one.
+    /// All directories that have edges.
     pub fn directories(&self) -> Result<Vec<Number>, Memory>
-        ensures { IfOk result (λ numbers. (q : ℕ)
-            → edges_of self.now q ≢ [] → Among numbers.items q) }
+        ensures all { IfOk result (λ numbers. (q : ℕ)
+            → Among numbers.items q ↔ edges_of self.now q ≢ []) }
+        ensures once { IfOk result (λ numbers. EachOnce numbers.items) }
     {
-        self.numbers(None)
+        let mut numbers = Vec::new(self.alloc);
+        for (number, edges) in self.nodes.iter() {
+            if leads(edges.as_slice()) {
+                numbers.push(Number::new(*number))?;
+            }
+        }
+        Ok(numbers)
     }
 
     /// All directories, each behind all on which it depends.
@@ -46,7 +53,8 @@ impl Graph {
         self.sources_with(next, numbers.as_slice())
     }
 
-    /// The numbers of all nodes, that of the next edges in front.
+    /// The numbers of all nodes, that of the next edges in front. The directory that is ready for
+    /// edges may have none.
     fn numbers(&self, next: Option<&NewEdges>) -> Result<Vec<Number>, Memory>
         ensures { IfOk result (λ numbers. (q : ℕ)
             → edges_with self.now (option_copied next.entry) q ≢ [] → Among numbers.items q) }
@@ -84,6 +92,13 @@ impl Graph {
         }
         Ok(cone)
     }
+}
+
+/// Whether there are edges.
+fn leads(edges: &[Number]) -> bool
+    ensures { result ≡ not (length edges.now == 0) }
+{
+    !edges.is_empty()
 }
 
 /// A set of numbers.

@@ -3,7 +3,7 @@ ghost use Rattle.std.specs.Prelude.{◌≡◌, nat_eq, IfOk, OnOk};
 ghost use Rattle.std.specs.Option.{option_copied};
 ghost use Rattle.hac_model.specs.Tree.Depends.{NeverReturns};
 ghost use Rattle.indexmap.specs.IndexSet.{contains};
-ghost use Rattle.dep_graph.specs.Graphs.{edges_of, edges_with};
+ghost use Rattle.dep_graph.specs.Graphs.{edges_with};
 ghost use Rattle.dep_graph.specs.Searches.{AreSources};
 ghost use Rattle.dep_graph.specs.Steps.{Visits, entering};
 
@@ -21,16 +21,9 @@ enum Step {
 }
 
 impl Graph {
-    /// The directories that some of these reaches, those among them that are there. Each comes
-    /// behind all on which it depends.
-    pub fn sources(&self, dirs: &[Number]) -> Result<Vec<Number>, Memory>
-        requires { NeverReturns (edges_of self.now) }
-        ensures { IfOk result (λ numbers. AreSources (edges_of self.now) dirs.now numbers.items) }
-    {
-        self.sources_with(None, dirs)
-    }
-
-    /// The same as it will be once the next edges are set, if there are any.
+    /// The directories that some of these reaches, those among them that are there, over the edges
+    /// as they will be once the next ones are set, if there are any. Each comes behind all on which
+    /// it depends.
     pub(crate) fn sources_with(
         &self,
         next: Option<&NewEdges>,

@@ -10,7 +10,7 @@ use Rattle.dep_graph.specs.Graphs as graph
 use Rattle.dep_graph.specs.Graphs.{edges_of, edges_with, replaced}
 use Rattle.dep_graph.specs.declared.graph.NewEdges.{NewEdges}
 use Rattle.link_kinds.specs.Seen.{Known, kind_at}
-use Rattle.kept_facts.specs.Answers.{Answered, answers_kept, answers_put, answers_with}
+use Rattle.kept_facts.specs.Answers.{Answered, answers_kept, answers_next}
 
 -- the edges of each directory after an event, by those that were prepared for it
 abbrev pub edges_after : Event → Option NewEdges → graph.Seen → ℕ → List ℕ
@@ -31,9 +31,9 @@ mark_after other marks dir item = kind_at marks dir item
 
 -- the answers of each mount after an event, by those that were prepared for it
 abbrev pub answers_after : Event → Answered → ℕ → List Answer
-answers_after (Smkdir dir name query told) known = answers_with (answers_kept known) known.told
-answers_after (Setq dir query told) known = answers_with (answers_kept known) known.told
-answers_after (Smount dir name space documents told) known = answers_put (answers_kept known) known.ready
-answers_after (Ssync mount documents told) known = answers_put (answers_kept known) known.ready
+answers_after (Smkdir dir name query told) known = answers_next known
+answers_after (Setq dir query told) known = answers_next known
+answers_after (Smount dir name space documents told) known = answers_next known
+answers_after (Ssync mount documents told) known = answers_next known
 answers_after (Sumount gone) known = put_at (answers_kept known) gone []
 answers_after other known = answers_kept known

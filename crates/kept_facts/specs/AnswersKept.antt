@@ -1,9 +1,11 @@
 -- How the answers of mounts are kept: a list under each number, which has no meaning where it is empty.
-use Rattle.std.specs.Prelude.{ℕ, Bool, List, [], Option, Some, None, IfSome, IsTrue, is_some, nat_eq, unwrap_or}
+use Rattle.std.specs.Prelude.{⊤, ℕ, Bool, List, [], ◌∷◌, Option, Some, None, IsTrue, is_some, nat_eq, unwrap_or}
 use Rattle.indexmap.specs.IndexMap.{IndexMap, get}
 use Rattle.hac_model.specs.declared.states.Answer.{Answer}
 use Rattle.kept_facts.specs.Answers.{Answered}
 use Rattle.kept_facts.specs.declared.answers.Answers.TheInside.{Inside}
+use Rattle.kept_facts.specs.declared.answers.Ready.{Ready}
+use Rattle.kept_facts.specs.declared.answers.Ready.TheVariants.{Nothing, One, All}
 
 module _ {S : Type 0} where
   -- the number has a list
@@ -19,9 +21,19 @@ module _ {S : Type 0} where
   told_of None = None
   told_of (Some lists) = Some lists.entries
 
-abbrev pub answered_of : Inside → Answered
-answered_of kept = record { mounts = kept.lists.entries; ready = kept.ready; told = told_of kept.told }
+-- what is next, by what is ready and what mounts keep
+abbrev pub next_lists : Ready → List (ℕ × List Answer) → List (ℕ × List Answer)
+next_lists Nothing kept = kept
+next_lists (One new) kept = (new.mount, new.answers) ∷ kept
+next_lists (All lists) kept = lists.entries
 
--- the mount that is ready has a list, which may be empty
+abbrev pub answered_of : Inside → Answered
+answered_of kept = record { mounts = kept.lists.entries; next = next_lists kept.ready kept.lists.entries }
+
+-- a mount that is ready alone has a list, which may be empty
 abbrev pub HasPlace : Inside → Type 0
-HasPlace kept = IfSome kept.ready (λ new. IsTrue (has_list kept.lists new.mount))
+HasPlace kept = has_place kept.ready
+  where
+    has_place : Ready → Type 0
+    has_place (One new) = IsTrue (has_list kept.lists new.mount)
+    has_place other = ⊤

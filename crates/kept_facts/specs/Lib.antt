@@ -1,5 +1,4 @@
 pub mod Answers
 pub mod AnswersKept
-pub mod GainsKept
 pub mod Room
 pub mod After

@@ -134,8 +134,10 @@ pub fn answers_after<'a>(answers: &'a Answers, event: &Event, mount: Number) -> 
     ensures { result.now ≡ answers_after event.now answers.now mount }
 {
     match event {
-        Event::Smkdir { .. } | Event::Setq { .. } => answers.told_to(mount),
-        Event::Smount { .. } | Event::Ssync { .. } => answers.put_for(mount),
+        Event::Smkdir { .. }
+        | Event::Setq { .. }
+        | Event::Smount { .. }
+        | Event::Ssync { .. } => answers.next_of(mount),
         Event::Sumount { mount: gone } => answers_without(answers, *gone, mount),
         _ => answers.kept_by(mount),
     }

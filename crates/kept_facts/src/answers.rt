@@ -1,41 +1,50 @@
 //! The answers of spaces, by the mounts that keep them. It knows no tree and no query.
-ghost use Rattle.std.specs.Prelude.{◌≡◌, ◌==◌, ◌≤◌, ℕ, [], None, Some, IfSome, IsSome, IsTrue};
-ghost use Rattle.std.specs.Prelude.{OnOk, if◌then◌else◌, length, unwrap_or};
+ghost use Rattle.std.specs.Prelude.{◌≡◌, ◌==◌, ◌≤◌, ℕ, [], None, IsTrue, OnErr, OnOk};
+ghost use Rattle.std.specs.Prelude.{if◌then◌else◌, length, unwrap_or};
 ghost use Rattle.std.specs.List.{prefix_len};
 ghost use Rattle.std.specs.Option.{option_copied};
 ghost use Rattle.hac_model.specs.Query.Terms.{is_term_before};
 ghost use Rattle.hac_model.specs.Tree.Links.{has};
 ghost use Rattle.hac_model.specs.Tree.Mounts.{is_kept, kept_for};
 ghost use Rattle.hac_model.specs.Tree.Valid.{RiseFrom, TermsRise};
-ghost use Rattle.kept_facts.specs.Answers.{AreInOrder, Replaces, SameAnswers, answers_kept};
-ghost use Rattle.kept_facts.specs.Answers.{answers_put, answers_with};
+ghost use Rattle.kept_facts.specs.Answers.{AreInOrder, KeepsOn, Replaces, SameAnswers, Takes};
+ghost use Rattle.kept_facts.specs.Answers.{WillReplace, answers_kept, answers_next, answers_with};
 ghost use Rattle.kept_facts.specs.AnswersKept.{has_list, list_at, told_of};
 
 use hac_model::{Answer, Memory, Number, Seq, Term};
 use indexmap::IndexMap;
 use std::alloc::Global;
 use std::marker::Model;
+use std::mem;
 
 /// The answers by the numbers of their mounts.
 pub type Lists = IndexMap<u64, Seq<Answer>>;
 
-/// The answers that each mount keeps, and those that it is to keep, once it is ready for them: one
-/// mount alone, or all that were told for a query. A mount that isn't there keeps none.
+/// The answers that each mount keeps, and those that it is to keep. A mount that isn't there keeps
+/// none.
 #[derive(Drop)]
 pub struct Answers {
     alloc: Global,
     lists: Lists,
-    ready: Option<NewAnswers>,
-    told: Option<Lists>,
+    ready: Ready,
+}
+
+/// What mounts are to keep.
+#[derive(Drop)]
+enum Ready {
+    /// What they keep.
+    Nothing,
+    /// One mount other answers, and the others what they keep.
+    One(NewAnswers),
+    /// What was told for a query: all of them these lists.
+    All(Lists),
 }
 
 /// The answers that a mount is to keep.
-#[derive(Debug, Drop)]
-pub struct NewAnswers {
-    /// The mount.
-    pub mount: Number,
-    /// Its answers.
-    pub answers: Seq<Answer>,
+#[derive(Drop)]
+struct NewAnswers {
+    mount: Number,
+    answers: Seq<Answer>,
 }
 
 impl Model for Answers {
@@ -53,25 +62,23 @@ impl Model for Answers {
 impl Answers {
     /// No mount keeps any.
     pub fn new(alloc: Global) -> Answers
-        ensures { result ≡ record { mounts = []; ready = None; told = None } }
+        ensures { result ≡ record { mounts = []; next = [] } }
     {
         Answers {
             alloc,
             lists: IndexMap::new(alloc),
-            ready: None,
-            told: None,
+            ready: Ready::Nothing,
         }
     }
 
     /// Each mount keeps the answers that it has here.
     pub fn of_lists(alloc: Global, lists: Lists) -> Answers
-        ensures { result ≡ record { mounts = lists.entries; ready = None; told = None } }
+        ensures { result ≡ record { mounts = lists.entries; next = lists.entries } }
     {
         Answers {
             alloc,
             lists,
-            ready: None,
-            told: None,
+            ready: Ready::Nothing,
         }
     }
 
@@ -100,87 +107,66 @@ impl Answers {
     }
 
     /// Prepares answers that a mount is to keep in place of those that it keeps. No answers change,
-    /// whatever the answer.
+    /// whatever the answer, and what was prepared before is dropped.
     pub fn prepare(&mut self, mount: Number, answers: Seq<Answer>) -> Result<(), Memory>
-        ensures ok { OnOk result (self.new.ready
-            ≡ Some (record { mount = mount; answers = answers })) }
+        ensures ok { OnOk result (WillReplace self.new mount answers) }
+        ensures err { OnErr result (KeepsOn self.new) }
         ensures same { SameAnswers self.old self.new }
     {
-        self.forget();
+        forget(&mut self.lists, &mut self.ready);
         make_place(self.alloc, &mut self.lists, mount)?;
-        self.ready = Some(NewAnswers { mount, answers });
+        self.ready = Ready::One(NewAnswers { mount, answers });
         Ok(())
     }
 
-    /// The mount that is ready keeps the answers that were prepared, and no others.
-    pub fn put(&mut self)
-        requires { IsSome self.old.ready }
-        ensures { IfSome self.old.ready (λ new. Replaces self.old self.new new.mount new.answers) }
-    {
-        let Some(new) = self.ready.take() else {
-            unreachable!()
-        };
-        replace(&mut self.lists, new.mount, new.answers);
-    }
-
     /// Prepares what all mounts are to keep: these lists, or what they keep where there are none.
-    /// No answers change.
+    /// No answers change, and what was prepared before is dropped.
     pub fn prepare_told(&mut self, lists: Option<Lists>)
-        ensures told { self.new.told ≡ told_of lists }
+        ensures told { (mount : ℕ) → answers_next self.new mount
+            ≡ answers_with (answers_kept self.new) (told_of lists) mount }
         ensures same { SameAnswers self.old self.new }
     {
-        self.forget();
-        self.told = lists;
-    }
-
-    /// The mounts keep what was prepared for all of them.
-    pub fn put_told(&mut self)
-        ensures { (mount : ℕ) → answers_kept self.new mount
-            ≡ answers_with (answers_kept self.old) self.old.told mount }
-    {
-        if let Some(lists) = self.told.take() {
-            self.ready = None;
-            self.lists = lists;
+        forget(&mut self.lists, &mut self.ready);
+        if let Some(lists) = lists {
+            self.ready = Ready::All(lists);
         }
     }
 
-    /// The answers that a mount will keep once those are put that were prepared for one mount.
-    pub fn put_for(&self, mount: Number) -> &[Answer]
-        ensures { result.now ≡ answers_put (answers_kept self.now) self.now.ready mount }
+    /// The mounts keep what was prepared, and nothing else is ready.
+    pub fn put(&mut self)
+        ensures { Takes self.old self.new }
+    {
+        match mem::replace(&mut self.ready, Ready::Nothing) {
+            Ready::Nothing => {}
+            Ready::One(new) => replace(&mut self.lists, new.mount, new.answers),
+            Ready::All(lists) => self.lists = lists,
+        }
+    }
+
+    /// The answers that a mount will keep once those are put that were prepared.
+    pub fn next_of(&self, mount: Number) -> &[Answer]
+        ensures { result.now ≡ answers_next self.now mount }
     {
         match &self.ready {
-            Some(new) if new.mount == mount => new.answers.as_slice(),
-            _ => self.kept_by(mount),
+            Ready::Nothing => self.kept_by(mount),
+            Ready::One(new) => {
+                if new.mount == mount {
+                    new.answers.as_slice()
+                } else {
+                    self.kept_by(mount)
+                }
+            }
+            Ready::All(lists) => list_of(lists, mount),
         }
     }
 
-    /// The answers that a mount will keep once those are put that were prepared for all mounts.
-    pub fn told_to(&self, mount: Number) -> &[Answer]
-        ensures { result.now ≡ answers_with (answers_kept self.now) self.now.told mount }
-    {
-        match &self.told {
-            Some(lists) => list_of(lists, mount),
-            None => self.kept_by(mount),
-        }
-    }
-
-    /// The mount keeps no answers any more.
+    /// The mount keeps no answers any more. What was prepared is dropped.
     pub fn drop_mount(&mut self, mount: Number)
-        ensures { Replaces self.old self.new mount [] }
+        ensures kept { Replaces self.old self.new mount [] }
+        ensures next { KeepsOn self.new }
     {
-        self.forget();
+        forget(&mut self.lists, &mut self.ready);
         take_out(&mut self.lists, mount);
-    }
-
-    /// Forgets what was prepared.
-    fn forget(&mut self)
-        ensures ready { self.new.ready ≡ None }
-        ensures same { SameAnswers self.old self.new }
-    {
-        self.told = None;
-        if let Some(new) = self.ready.take() {
-            take_out_bare(&mut self.lists, new.mount);
-        }
     }
 }
 
@@ -232,12 +218,23 @@ pub fn is_among(numbers: &[Number], number: Number) -> bool
 }
 
 /// The answers under a number.
-pub fn list_of(lists: &Lists, mount: Number) -> &[Answer]
+fn list_of(lists: &Lists, mount: Number) -> &[Answer]
     ensures { result.now ≡ list_at lists.now mount }
 {
     match lists.get(&mount.get()) {
         Some(answers) => answers.as_slice(),
         None => &[],
+    }
+}
+
+/// Forgets what was prepared.
+fn forget(lists: &mut Lists, ready: &mut Ready)
+    ensures ready { ready.new ≡ Ready.Nothing }
+    ensures same { (number : ℕ) → list_at lists.new number ≡ list_at lists.old number }
+{
+    match mem::replace(ready, Ready::Nothing) {
+        Ready::One(new) => take_out_bare(lists, new.mount),
+        Ready::Nothing | Ready::All(_) => {}
     }
 }
 

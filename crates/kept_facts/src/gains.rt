@@ -1,54 +1,13 @@
-//! What mounts keep once they were told for a query: answers, with more of them in their places. It
-//! changes nothing.
+//! What a mount keeps once it was told more: answers, with more of them in their places. It changes
+//! nothing.
 ghost use Rattle.std.specs.Prelude.{◌≡◌, ◌≤◌, IfOk, OnOk, length, not};
 ghost use Rattle.std.specs.List.{prefix_len};
 ghost use Rattle.hac_model.specs.Query.Terms.{is_term_before};
 ghost use Rattle.hac_model.specs.Tree.Asking.{put_answer, with_answers};
-ghost use Rattle.kept_facts.specs.Answers.{answers_with};
-ghost use Rattle.kept_facts.specs.AnswersKept.{told_of};
 
-use crate::answers::{Lists, list_of};
 use crate::terms::answer_to;
-use hac_model::{Answer, Memory, Number, Term};
+use hac_model::{Answer, Memory, Term};
 use std::alloc::Global;
-use std::marker::Model;
-
-/// What mounts keep once they were told for a query, seen as their answers by their numbers, or as
-/// nothing where nothing was told and each keeps what it did.
-#[derive(Drop)]
-pub struct Gains {
-    lists: Option<Lists>,
-}
-
-impl Model for Gains {
-    ghost use Rattle.std.specs.Prelude.{List, Option, ℕ};
-    ghost use Rattle.hac_model.specs.declared.states.Answer.{Answer};
-
-    ghost Value = { Option (List (ℕ × List Answer)) };
-
-    ghost use Rattle.kept_facts.specs.GainsKept.{gains_of};
-
-    ghost view = { gains_of };
-}
-
-impl Gains {
-    /// Those of these lists.
-    pub fn new(lists: Option<Lists>) -> Gains
-        ensures { result ≡ told_of lists }
-    {
-        Gains { lists }
-    }
-
-    /// The answers of a mount, given those that it keeps.
-    pub fn answers<'a>(&'a self, mount: Number, kept: &'a [Answer]) -> &'a [Answer]
-        ensures { result.now ≡ answers_with (λ number. kept.now) self.now mount }
-    {
-        match &self.lists {
-            Some(lists) => list_of(lists, mount),
-            None => kept,
-        }
-    }
-}
 
 /// Answers with more of them, each in its place.
 pub fn with_answers(

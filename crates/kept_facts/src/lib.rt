@@ -12,8 +12,8 @@ mod room;
 pub mod sessions;
 mod terms;
 
-pub use answers::{Answers, Lists, NewAnswers, had, is_among, is_answered, put_list};
+pub use answers::{Answers, Lists, had, is_among, is_answered, put_list};
 pub use edges::edges_of;
-pub use gains::{Gains, with_answers};
+pub use gains::with_answers;
 pub use room::Room;
 pub use terms::{answers_to, in_order, ordered_terms, push_terms, unanswered};

@@ -1,6 +1,6 @@
 -- Mounts are put: what they need, and what each of their events does to the tree, the marks and the answers.
 use Rattle.std.proofs.Common.{◌≡◌, ℕ, ◌≤◌, Bool, true, false, cond, List, [], length, subst, refl, ap, sym, ◌∙◌}
-use Rattle.std.specs.Prelude.{◌==◌, Option, Some, None, IfSome, IsSome, IsTrue}
+use Rattle.std.specs.Prelude.{◌==◌, Option, Some, None, IsTrue}
 use Rattle.std.specs.List.{list_all}
 use Rattle.std.specs.Option.{option_map, option_map_or}
 use Rattle.std.proofs.lemmas.Bool.{and_parts, eqb-true, leb-true}
@@ -25,8 +25,7 @@ use Rattle.hac_model.proofs.ValidLemmas.{free-parts}
 use Rattle.dep_graph.specs.Graphs.{edges_of}
 use Rattle.file_tree.specs.Seen as tree
 use Rattle.link_kinds.specs.Seen.{Known, SameLinks, lists_in}
-use Rattle.kept_facts.specs.Answers.{Answered, Replaces, answers_kept}
-use Rattle.kept_facts.specs.declared.answers.NewAnswers.{NewAnswers}
+use Rattle.kept_facts.specs.Answers.{Answered, Replaces, Takes, answers_kept}
 use Rattle.kept_state.specs.Forgetting.{ForgetsSuch, lists_without}
 use Rattle.kept_state.specs.Parts.{IsLinked, facts_kept, state_of}
 use Rattle.kept_state.specs.Ready.{AnswersReady, IsCommitted}
@@ -104,12 +103,8 @@ module _ (kept : Parts) where
     gone-mount = sym (same-mount s t (kept-bares kept) mount) ∙ going-mount
 
 -- what was prepared is put
-pub put-answers : (kept : Parts) (mount : ℕ) (told : List (List ℕ)) (new : Answered) → AnswersReady kept mount told → IfSome kept.answers.ready (λ ready. Replaces kept.answers new ready.mount ready.answers) →
-    Replaces kept.answers new mount (answers_to (terms_to_ask kept.tree.state.entries) told)
-put-answers kept mount told new ready puts = subst (λ (o : Option NewAnswers). IfSome o (λ ready. Replaces kept.answers new ready.mount ready.answers)) ready puts
-
-pub is-ready : (kept : Parts) (mount : ℕ) (told : List (List ℕ)) → AnswersReady kept mount told → IsSome kept.answers.ready
-is-ready kept mount told ready = subst (λ (o : Option NewAnswers). IsSome o) (sym ready) refl
+pub put-answers : (kept : Parts) (mount : ℕ) (told : List (List ℕ)) (new : Answered) → AnswersReady kept mount told → Takes kept.answers new → Replaces kept.answers new mount (answers_to (terms_to_ask kept.tree.state.entries) told)
+put-answers kept mount told new ready takes = λ n. takes.kept n ∙ ready n
 
 -- A mount comes.
 

@@ -33,10 +33,10 @@ use Rattle.set_pool.specs.Rising as items
 use Rattle.link_kinds.specs.Kinds.{no_lists, with_kind, without_item}
 use Rattle.link_kinds.specs.Seen.{ChangesDir, DropsItem, Known, LinkListsRise, SameLinks, has_sets, lists_in, permanent_in, prohibited_in, transient_in}
 use Rattle.link_kinds.proofs.PutLemmas.{inserted-put, removed-without}
-use Rattle.kept_facts.specs.Answers.{Answered, answers_kept, answers_with}
-use Rattle.kept_state.specs.Gains.{AreGains, answers_then}
+use Rattle.kept_facts.specs.Answers.{Answered, answers_kept, answers_next}
+use Rattle.kept_state.specs.Gains.{answers_then}
 use Rattle.kept_state.specs.Parts.{IsLinked, edges_marked, edges_then, facts_kept, state_of}
-use Rattle.kept_state.specs.Ready.{IsCommitted}
+use Rattle.kept_state.specs.Ready.{GainsReady, IsCommitted}
 use Rattle.kept_state.specs.declared.parts.Parts.{Parts}
 use Rattle.kept_state.proofs.AnswerLemmas.{asking-keeps_none, kept-answers, mountless}
 use Rattle.kept_state.proofs.GainLemmas.{gained-plain}
@@ -111,9 +111,9 @@ module _ (kept : Parts) (asked : Formula ℕ) (told : List (List ℕ)) where
 
 -- A semantic directory comes.
 
-module _ (kept : Parts) (h : IsLinked kept) (dir : ℕ) (name : List ℕ) (asked : Formula ℕ) (told : List (List ℕ)) (ok : IsTrue (accepted (state_of kept) (event.Smkdir dir name asked told))) (gains : AreGains (answers_kept kept.answers) asked told kept.tree.state kept.answers.told) where
+module _ (kept : Parts) (h : IsLinked kept) (dir : ℕ) (name : List ℕ) (asked : Formula ℕ) (told : List (List ℕ)) (ok : IsTrue (accepted (state_of kept) (event.Smkdir dir name asked told))) (gains : GainsReady kept asked told) where
   pub semantic-put : (tree : tree.Seen) (edges_now : graph.Seen) (answered : Answered) → tree.state ≡ added kept.tree.state dir name (Semantic asked [] []) → ((q : ℕ) → edges_of edges_now q ≡ replaced (edges_of kept.graph) kept.tree.state.next (edges_then kept kept.tree.state.next dir (Some asked)) q) →
-      ((n : ℕ) → answers_kept answered n ≡ answers_with (answers_kept kept.answers) kept.answers.told n) → IsCommitted (event.Smkdir dir name asked told) kept (record kept { tree = tree; graph = edges_now; answers = answered })
+      ((n : ℕ) → answers_kept answered n ≡ answers_next kept.answers n) → IsCommitted (event.Smkdir dir name asked told) kept (record kept { tree = tree; graph = edges_now; answers = answered })
   semantic-put tree edges_now answered is each takes =
       put kept (record kept { tree = tree; graph = edges_now; answers = answered }) (event.Smkdir dir name asked told) h ok is
       (λ n. lists-still kept h t.next new n (ap (λ (facts : Facts). facts.marks) (next-none kept h)) ∙ ap unfound (still-marks (n == t.next) new (facts_kept kept n) (now-told kept asked told n).answers))
@@ -141,9 +141,9 @@ module _ (kept : Parts) (h : IsLinked kept) (dir : ℕ) (name : List ℕ) (asked
 
 -- A directory gets a query.
 
-module _ (kept : Parts) (h : IsLinked kept) (dir : ℕ) (asked : Formula ℕ) (told : List (List ℕ)) (ok : IsTrue (accepted (state_of kept) (event.Setq dir asked told))) (gains : AreGains (answers_kept kept.answers) asked told kept.tree.state kept.answers.told) where
+module _ (kept : Parts) (h : IsLinked kept) (dir : ℕ) (asked : Formula ℕ) (told : List (List ℕ)) (ok : IsTrue (accepted (state_of kept) (event.Setq dir asked told))) (gains : GainsReady kept asked told) where
   pub query-put : (tree : tree.Seen) (edges_now : graph.Seen) (answered : Answered) → tree.state ≡ changed_at kept.tree.state dir (edited (asking asked)) → ((q : ℕ) → edges_of edges_now q ≡ replaced (edges_of kept.graph) dir (edges_then kept dir (parent_of kept.tree.state dir) (Some asked)) q) →
-      ((n : ℕ) → answers_kept answered n ≡ answers_with (answers_kept kept.answers) kept.answers.told n) → IsCommitted (event.Setq dir asked told) kept (record kept { tree = tree; graph = edges_now; answers = answered })
+      ((n : ℕ) → answers_kept answered n ≡ answers_next kept.answers n) → IsCommitted (event.Setq dir asked told) kept (record kept { tree = tree; graph = edges_now; answers = answered })
   query-put tree edges_now answered is each takes =
       put kept (record kept { tree = tree; graph = edges_now; answers = answered }) (event.Setq dir asked told) h ok is
       (λ n. lists-still kept h dir new n refl ∙ ap unfound (still-marks (n == dir) new (facts_kept kept n) (now-told kept asked told n).answers))

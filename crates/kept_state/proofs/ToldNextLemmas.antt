@@ -17,8 +17,7 @@ use Rattle.hac_model.specs.declared.states.State.{State}
 use Rattle.hac_model.proofs.TreeLemmas.{entry_at-next}
 use Rattle.hac_model.proofs.ValidLemmas.{setq-parts}
 use Rattle.dep_graph.specs.declared.graph.NewEdges.{NewEdges}
-use Rattle.kept_facts.specs.Answers.{answers_kept, answers_put}
-use Rattle.kept_facts.specs.declared.answers.NewAnswers.{NewAnswers}
+use Rattle.kept_facts.specs.Answers.{answers_kept}
 use Rattle.kept_facts.specs.After.{answers_after}
 use Rattle.kept_state.specs.Parts.{IsLinked, facts_kept, state_of}
 use Rattle.kept_state.specs.Ready.{IsPreparedFor}
@@ -67,10 +66,10 @@ module _ (kept : Parts) (h : IsLinked kept) where
       answers-still kept h mark.dir (facts_with t (parent_of t mark.dir) (query_at t mark.dir) (with_mark mark.kind mark.item (facts mark.dir).marks) (facts mark.dir)) n refl
   event-answers (event.Mv entry dir name) edges ok fits n = answers-still kept h entry (facts_with t dir (query_at t entry) (facts entry).marks (facts entry)) n refl
   event-answers (event.Smount dir name space documents told) edges ok fits n =
-      ap (λ (o : Option NewAnswers). answers_put keeps o n) fits.1
+      fits.1 n
       ∙ answers-put (n == t.next) (record no_facts { answers = answers_to (terms_to_ask t.entries) told }) (facts n)
   event-answers (event.Ssync mount documents told) edges ok fits n =
-      ap (λ (o : Option NewAnswers). answers_put keeps o n) fits.1
+      fits.1 n
       ∙ answers-put (n == mount) (record no_facts { answers = answers_to (terms_to_ask t.entries) told }) (facts_without (is_such_at (is_gone mount documents) t.entries) facts n)
   event-answers (event.Sumount mount) edges ok fits n = answers-put (n == mount) no_facts (facts_without (is_such_at (is_of_mount mount) t.entries) facts n)
   event-answers (event.Mkdir dir name) edges ok fits n = refl

@@ -2,13 +2,12 @@
 use Rattle.std.specs.Prelude.{◌≡◌, ℕ, List, [], Option}
 use Rattle.std.specs.Option.{option_map_or}
 use Rattle.hac_model.specs.Query.Formula.{Formula}
-use Rattle.hac_model.specs.Tree.Asking.{asked_by, gained, with_answers, with_told}
-use Rattle.hac_model.specs.Tree.Links.{answers_at}
+use Rattle.hac_model.specs.Tree.Asking.{asked_by, gained, with_answers}
 use Rattle.hac_model.specs.Tree.{entry_at}
 use Rattle.hac_model.specs.declared.states.Answer.{Answer}
 use Rattle.hac_model.specs.declared.states.State.{State}
 use Rattle.hac_model.specs.declared.terms.Term.{Term}
-use Rattle.kept_facts.specs.Answers.{AreInOrder, answers_kept, answers_with}
+use Rattle.kept_facts.specs.Answers.{answers_kept, answers_with}
 use Rattle.kept_state.specs.declared.parts.Parts.{Parts}
 
 -- the terms for which the mount of a number has to be asked
@@ -22,8 +21,3 @@ answers_then kept query told tree mount = with_answers (gained kept query told t
 -- by these lists, or without any, each mount keeps what it gains too
 abbrev pub AreGains : (ℕ → List Answer) → Formula ℕ → List (List ℕ) → State → Option (List (ℕ × List Answer)) → Type 0
 AreGains kept query told tree gains = (mount : ℕ) → answers_with kept gains mount ≡ answers_then kept query told tree mount
-
--- by these lists, or without any, each mount of a state keeps what it was told for a query, and all that it keeps is in order
-pub record AreGainsOf (s : State) (query : Formula ℕ) (told : List (List ℕ)) (gains : Option (List (ℕ × List Answer))) : Type 0 where
-  pub answers : (mount : ℕ) → answers_with (answers_at s) gains mount ≡ answers_at (with_told query told s) mount
-  pub order : (mount : ℕ) → AreInOrder (answers_with (answers_at s) gains mount)

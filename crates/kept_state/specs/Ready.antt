@@ -18,8 +18,8 @@ use Rattle.file_tree.specs.Documents.{numbers_for}
 use Rattle.file_tree.specs.declared.ready.Ready.TheVariants as tree
 use Rattle.file_tree.specs.declared.tree.EntryKind.TheVariants as kind
 use Rattle.link_kinds.specs.Seen.{has_sets}
-use Rattle.kept_facts.specs.Answers.{answers_kept}
-use Rattle.kept_state.specs.Gains.{AreGains}
+use Rattle.kept_facts.specs.Answers.{WillReplace, answers_kept, answers_next}
+use Rattle.kept_state.specs.Gains.{answers_then}
 use Rattle.kept_state.specs.Parts.{IsLinked, WillHave, edges_marked, edges_then, state_of}
 use Rattle.kept_state.specs.declared.parts.Parts.{Parts}
 use Rattle.kept_state.specs.declared.ready.Ready.{Ready}
@@ -27,11 +27,11 @@ use Rattle.kept_state.specs.declared.ready.Ready.TheVariants.{Nothing, Change, S
 
 -- a mount is ready for what its space told of the terms in use
 abbrev pub AnswersReady : Parts → ℕ → List (List ℕ) → Type 0
-AnswersReady kept mount told = kept.answers.ready ≡ Some (record { mount = mount; answers = answers_to (terms_to_ask kept.tree.state.entries) told })
+AnswersReady kept mount told = WillReplace kept.answers mount (answers_to (terms_to_ask kept.tree.state.entries) told)
 
 -- all mounts are ready for what they were told for a query
 abbrev pub GainsReady : Parts → Formula ℕ → List (List ℕ) → Type 0
-GainsReady kept query told = AreGains (answers_kept kept.answers) query told kept.tree.state kept.answers.told
+GainsReady kept query told = (mount : ℕ) → answers_next kept.answers mount ≡ answers_then (answers_kept kept.answers) query told kept.tree.state mount
 
 -- the tree, the marks, the answers and the graph are ready for an event, with these edges
 abbrev pub IsPreparedFor : Event → Option NewEdges → Parts → Type 0

@@ -9,7 +9,8 @@ use hac_model::{Mark, Memory, Number, Query};
 use kept_facts::edges_of;
 use std::alloc::Global;
 
-/// The directory through which one would depend on itself that gets a query, if there is any.
+/// If a directory got this query: the first directory on which it would then depend that depends on
+/// it, if any.
 pub fn cycle_of_query(
     alloc: Global,
     kept: &Parts,

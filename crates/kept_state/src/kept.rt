@@ -1,7 +1,5 @@
 //! The state as it is kept, and the events that it is ready for.
-ghost use Rattle.std.specs.Prelude.{◌≡◌, ◌∷◌, [], ℕ, IfOk, IsTrue, List, OnErr, OnOk, replicate};
-ghost use Rattle.hac_model.specs.Query.Formula.{Formula};
-ghost use Rattle.hac_model.specs.Tree.Asking.{are_all_told, unanswered, with_told};
+ghost use Rattle.std.specs.Prelude.{◌≡◌, ◌∷◌, [], IfOk, IsTrue, OnErr, OnOk, replicate};
 ghost use Rattle.hac_model.specs.Tree.Depends.{cycle_of_mark, cycle_of_move, cycle_over};
 ghost use Rattle.hac_model.specs.Tree.Events.{accepted, apply, apply_all};
 ghost use Rattle.hac_model.specs.Laws.{AllHappen};
@@ -16,12 +14,10 @@ ghost use Rattle.hac_model.specs.Tree.Valid.{IsValid};
 ghost use Rattle.hac_model.specs.Tree.Events.{is_placed};
 ghost use Rattle.file_tree.specs.Answers.{numbers_of};
 ghost use Rattle.kept_facts.specs.AnswersKept.{list_at};
-ghost use Rattle.kept_state.specs.Gains.{AreGainsOf};
 ghost use Rattle.hac_model.specs.declared.states.State.{State};
 ghost use Rattle.kept_state.specs.Readers.{AreEdgesOf, AreMarksOf, ArePartsOf, IsTreeOf};
 ghost use Rattle.kept_state.specs.Readers.{mark_at};
 
-use crate::gains::gained;
 use crate::parts::Parts;
 use crate::ready::{Ready, prepare, put};
 use crate::terms::terms_to_ask;
@@ -31,7 +27,7 @@ use file_tree::Tree;
 use hac_model::{
     Answer, Counts, Event, Kind, Mark, Memory, Name, Number, Path, Query, Seq, Term, Version,
 };
-use kept_facts::{Answers, Gains, Lists, had, sessions, unanswered};
+use kept_facts::{Answers, Lists, sessions};
 use link_kinds::Links;
 use std::alloc::Global;
 use std::marker::Model;
@@ -70,8 +66,8 @@ impl KeptState {
         })
     }
 
-    /// The state of which these are the parts, as they are made of one that was read. It stands in
-    /// no session's way: sessions begin in the root.
+    /// The state of which these are the parts, as they are made of one that was read. It has no
+    /// sessions: each begins in the root.
     pub fn of_parts(
         alloc: Global,
         tree: Tree,
@@ -155,52 +151,6 @@ impl KeptState {
         Ok(Seq::new(terms))
     }
 
-    /// The terms that a mount has to be asked for, for a query: those for which it keeps no answer,
-    /// in order.
-    pub fn terms_to_ask_for(
-        &self,
-        alloc: Global,
-        mount: Number,
-        query: &Query<Number>,
-    ) -> Result<Seq<Term>, Memory>
-        ensures { IfOk result (λ terms. terms
-            ≡ unanswered query.now (answers_at self.now.state mount)) }
-    {
-        let terms = unanswered(alloc, query, self.parts.answers.kept_by(mount))?;
-        Ok(Seq::new(terms))
-    }
-
-    /// What mounts would keep once they were told for a query. The state doesn't change.
-    pub fn gains(
-        &self,
-        alloc: Global,
-        query: &Query<Number>,
-        told: &[Seq<Number>],
-    ) -> Result<Gains, Memory>
-        requires { IsTrue (are_all_told self.now.state query.now told.now self.now.state.entries) }
-        ensures { IfOk result (λ gains. AreGainsOf self.now.state query.now told.now gains) }
-    {
-        let lists = gained(alloc, &self.parts, query, told)?;
-        Ok(Gains::new(lists))
-    }
-
-    /// Whether a document of a mount had a term, by what the mount keeps and by what it was told
-    /// for a query.
-    pub fn has_answer_with(
-        &self,
-        gains: &Gains,
-        mount: Number,
-        term: &Term,
-        document: Number,
-    ) -> bool
-        ensures { (query : Formula ℕ) (told : List (List ℕ)) →
-            AreGainsOf self.now.state query told gains.now →
-            result ≡ has (kept_at (with_told query told self.now.state) mount term.now) document }
-    {
-        let answers = gains.answers(mount, self.parts.answers.kept_by(mount));
-        had(answers, term, document)
-    }
-
     /// How much the state holds.
     pub fn counts(&self) -> Counts
         ensures counts { result ≡ counts self.now.state }
@@ -232,7 +182,8 @@ impl KeptState {
         &self.parts.graph
     }
 
-    /// The directory through which one would depend on itself that gets a query, if there is any.
+    /// If a directory got this query: the first directory on which it would then depend that
+    /// depends on it, if any.
     pub fn cycle_of_query(
         &self,
         alloc: Global,

@@ -44,7 +44,7 @@ impl Parts {
         ensures linked { IfOk result (λ kept. IsLinked kept) }
     {
         let tree = Tree::new(alloc, version)?;
-        let marks = Links::new(alloc)?;
+        let marks = Links::new(alloc);
         Ok(Parts {
             tree,
             marks,

@@ -362,7 +362,7 @@ fn put_semantic(
     drop(told);
     kept.tree.add(dir, name, NewBody::Semantic(query), counts);
     put_edges(&mut kept.graph, edges);
-    kept.answers.put_told();
+    kept.answers.put();
 }
 
 /// Gives a directory a query, and the edges that were prepared, and mounts what they were told for
@@ -382,7 +382,7 @@ fn put_query(
     drop(told);
     kept.tree.set_query(dir, query, counts);
     put_edges(&mut kept.graph, edges);
-    kept.answers.put_told();
+    kept.answers.put();
 }
 
 /// Removes a directory's query, with its edges and all its marks.

@@ -1,29 +1,29 @@
 -- The kinds of a directory's items, after one of them gets another.
-use Rattle.std.proofs.Common.{◌≡◌, ℕ, Bool, true, false, cond, not, ◌&&◌, ◌||◌, eqb, refl, sym, ap, ◌∙◌}
+use Rattle.std.proofs.Common.{◌≡◌, ℕ, Bool, List, true, false, cond, not, ◌&&◌, ◌||◌, eqb, refl, sym, ap, ◌∙◌}
 use Rattle.set_pool.specs.Rising.{is_among}
 use Rattle.set_pool.proofs.PoolLemmas.{among-inserted, among-removed}
 use Rattle.hac_model.specs.declared.marks.Kind.{Kind}
 use Rattle.hac_model.specs.declared.marks.Kind.TheVariants.{Transient, Permanent, Prohibited, Unlinked}
 use Rattle.hac_model.specs.Tree.Kinds.{is_permanent, is_prohibited, is_transient}
-use Rattle.link_kinds.specs.Kinds.{AreApart, Lists, kind_in, no_lists, with_kind, with_lent, without_item}
+use Rattle.link_kinds.specs.Kinds.{AreApart, Lists, kind_in, listed, no_lists, with_kind, with_lent, without_item}
 
 -- whether an item is in a list after a change of another or of the same: the list is that of the kind, the item was in
 -- it, it is the one that changes
-listed : Bool → Bool → Bool → Bool
-listed true was here = was || here
-listed false was here = was && not here
+then-listed : Bool → Bool → Bool → Bool
+then-listed true was here = was || here
+then-listed false was here = was && not here
 
 -- the item is in the list of its kind, and each other where it was
-listed-is : (for was here : Bool) → listed for was here ≡ cond here for was
-unfolding listed
-listed-is true true true = refl
-listed-is true true false = refl
-listed-is true false true = refl
-listed-is true false false = refl
-listed-is false true true = refl
-listed-is false true false = refl
-listed-is false false true = refl
-listed-is false false false = refl
+then-listed-is : (for was here : Bool) → then-listed for was here ≡ cond here for was
+unfolding then-listed
+then-listed-is true true true = refl
+then-listed-is true true false = refl
+then-listed-is true false true = refl
+then-listed-is true false false = refl
+then-listed-is false true true = refl
+then-listed-is false true false = refl
+then-listed-is false false true = refl
+then-listed-is false false false = refl
 
 -- the kind, from the lists in which an item is
 kind-of : Bool → Bool → Bool → Kind
@@ -36,23 +36,28 @@ kind-own Permanent = refl
 kind-own Prohibited = refl
 kind-own Unlinked = refl
 
-kind-changed : (kind : Kind) (here a b c : Bool) → kind-of (listed (is_transient kind) a here) (listed (is_permanent kind) b here) (listed (is_prohibited kind) c here) ≡ cond here kind (kind-of a b c)
+kind-changed : (kind : Kind) (here a b c : Bool) → kind-of (then-listed (is_transient kind) a here) (then-listed (is_permanent kind) b here) (then-listed (is_prohibited kind) c here) ≡ cond here kind (kind-of a b c)
 kind-changed kind here a b c =
-    (λ i. kind-of (listed-is (is_transient kind) a here i) (listed-is (is_permanent kind) b here i) (listed-is (is_prohibited kind) c here i))
+    (λ i. kind-of (then-listed-is (is_transient kind) a here i) (then-listed-is (is_permanent kind) b here i) (then-listed-is (is_prohibited kind) c here i))
     ∙ (elim here as (λ here. kind-of (cond here (is_transient kind) a) (cond here (is_permanent kind) b) (cond here (is_prohibited kind) c) ≡ cond here kind (kind-of a b c)) [ true ↦ kind-own kind | false ↦ refl ])
 
 -- in which lists an item is after another gets a kind, or it itself
 record AreListed (kind : Kind) (item i : ℕ) (lists : Lists) : Type 0 where
-  transient : is_among i (with_kind kind item lists).transient ≡ listed (is_transient kind) (is_among i lists.transient) (eqb i item)
-  permanent : is_among i (with_kind kind item lists).permanent ≡ listed (is_permanent kind) (is_among i lists.permanent) (eqb i item)
-  prohibited : is_among i (with_kind kind item lists).prohibited ≡ listed (is_prohibited kind) (is_among i lists.prohibited) (eqb i item)
+  transient : is_among i (with_kind kind item lists).transient ≡ then-listed (is_transient kind) (is_among i lists.transient) (eqb i item)
+  permanent : is_among i (with_kind kind item lists).permanent ≡ then-listed (is_permanent kind) (is_among i lists.permanent) (eqb i item)
+  prohibited : is_among i (with_kind kind item lists).prohibited ≡ then-listed (is_prohibited kind) (is_among i lists.prohibited) (eqb i item)
+
+among-listed : (on : Bool) (item i : ℕ) (list : List ℕ) → is_among i (listed on item list) ≡ then-listed on (is_among i list) (eqb i item)
+unfolding then-listed
+among-listed true item i list = among-inserted item i list
+among-listed false item i list = among-removed item i list
 
 are-listed : (kind : Kind) (item i : ℕ) (lists : Lists) → AreListed kind item i lists
-unfolding listed
-are-listed Transient item i lists = record { transient = among-inserted item i lists.transient; permanent = among-removed item i lists.permanent; prohibited = among-removed item i lists.prohibited }
-are-listed Permanent item i lists = record { transient = among-removed item i lists.transient; permanent = among-inserted item i lists.permanent; prohibited = among-removed item i lists.prohibited }
-are-listed Prohibited item i lists = record { transient = among-removed item i lists.transient; permanent = among-removed item i lists.permanent; prohibited = among-inserted item i lists.prohibited }
-are-listed Unlinked item i lists = record { transient = among-removed item i lists.transient; permanent = among-removed item i lists.permanent; prohibited = among-removed item i lists.prohibited }
+are-listed kind item i lists = record {
+  transient = among-listed (is_transient kind) item i lists.transient;
+  permanent = among-listed (is_permanent kind) item i lists.permanent;
+  prohibited = among-listed (is_prohibited kind) item i lists.prohibited;
+}
 
 -- the item has the kind that it got, and each other item its own
 pub kind-with : (kind : Kind) (item i : ℕ) (lists : Lists) → kind_in (with_kind kind item lists) i ≡ cond (eqb i item) kind (kind_in lists i)
@@ -71,9 +76,9 @@ apart-with kind item lists apart =
       prohibited = λ i. (are-listed kind item i lists).prohibited ∙ told is_prohibited i (is_among i lists.prohibited) (apart.prohibited i);
     }
   where
-    told : (test : Kind → Bool) (i : ℕ) (was : Bool) → was ≡ test (kind_in lists i) → listed (test kind) was (eqb i item) ≡ test (kind_in (with_kind kind item lists) i)
+    told : (test : Kind → Bool) (i : ℕ) (was : Bool) → was ≡ test (kind_in lists i) → then-listed (test kind) was (eqb i item) ≡ test (kind_in (with_kind kind item lists) i)
     told test i was same =
-        listed-is (test kind) was (eqb i item)
+        then-listed-is (test kind) was (eqb i item)
         ∙ ap (cond (eqb i item) (test kind)) same
         ∙ (elim (eqb i item) as (λ here. cond here (test kind) (test (kind_in lists i)) ≡ test (cond here kind (kind_in lists i))) [ true ↦ refl | false ↦ refl ])
         ∙ ap test (sym (kind-with kind item i lists))

@@ -31,16 +31,21 @@ items_of Permanent lists = lists.permanent
 items_of Prohibited lists = lists.prohibited
 items_of Unlinked lists = []
 
+-- the item is put into a list, or taken out
+abbrev pub listed : Bool → ℕ → List ℕ → List ℕ
+listed on item list = if on then inserted item list else removed item list
+
 -- the item gets the kind, in place of any that it had. It is lent or not, as it was.
 abbrev pub with_kind : Kind → ℕ → Lists → Lists
-with_kind Transient item lists = record { transient = inserted item lists.transient; permanent = removed item lists.permanent; prohibited = removed item lists.prohibited; lent = lists.lent }
-with_kind Permanent item lists = record { transient = removed item lists.transient; permanent = inserted item lists.permanent; prohibited = removed item lists.prohibited; lent = lists.lent }
-with_kind Prohibited item lists = record { transient = removed item lists.transient; permanent = removed item lists.permanent; prohibited = inserted item lists.prohibited; lent = lists.lent }
-with_kind Unlinked item lists = record { transient = removed item lists.transient; permanent = removed item lists.permanent; prohibited = removed item lists.prohibited; lent = lists.lent }
+with_kind kind item lists = record lists {
+  transient = listed (is_transient kind) item lists.transient;
+  permanent = listed (is_permanent kind) item lists.permanent;
+  prohibited = listed (is_prohibited kind) item lists.prohibited;
+}
 
 -- the item is lent or no longer lent, and has the kind that it had
 abbrev pub with_lent : Bool → ℕ → Lists → Lists
-with_lent on item lists = record lists { lent = if on then inserted item lists.lent else removed item lists.lent }
+with_lent on item lists = record lists { lent = listed on item lists.lent }
 
 -- the item isn't linked any more, nor lent
 abbrev pub without_item : ℕ → Lists → Lists

@@ -1,13 +1,13 @@
 //! Links: the kind of each item in each semantic directory, and the items that are lent to it. It
 //! knows nothing of what makes an item a link, or lends it.
-ghost use Rattle.std.specs.Prelude.{◌≡◌, ◌==◌, ◌&&◌, ◌||◌, ◌<◌, ◌+◌, length, max, ℕ, IfOk, IsTrue};
+ghost use Rattle.std.specs.Prelude.{◌≡◌, ◌==◌, ◌&&◌, ◌||◌, ◌<◌, ◌+◌, length, max, ℕ, [], IsTrue};
 ghost use Rattle.std.specs.Prelude.{None, Some, OnErr, OnOk, false, if◌then◌else◌, is_some, nat_eq};
 ghost use Rattle.std.specs.Prelude.{not};
 ghost use Rattle.indexmap.specs.IndexMap.{get, spare};
 ghost use Rattle.set_pool.specs.Rising.{first_from, is_among};
 ghost use Rattle.set_pool.specs.Sets as pool_sets;
 ghost use Rattle.link_kinds.specs.Kinds.{items_of, no_lists, with_kind, with_lent};
-ghost use Rattle.link_kinds.specs.Seen.{AllApart, ChangesDir, DropsItem, IsEmpty, LinkListsRise};
+ghost use Rattle.link_kinds.specs.Seen.{AllApart, ChangesDir, DropsItem, LinkListsRise};
 ghost use Rattle.link_kinds.specs.Seen.{LosesOneAtMost, SameKinds, SameLinks, has_sets, kind_at};
 ghost use Rattle.link_kinds.specs.Seen.{lent_in, lists_in, permanent_in, prohibited_in};
 ghost use Rattle.link_kinds.specs.Seen.{transient_in};
@@ -44,16 +44,13 @@ impl Model for Links {
 
 impl Links {
     /// No item is linked or lent anywhere.
-    pub fn new(alloc: Global) -> Result<Links, Memory>
-        ensures empty { IfOk result (λ links. IsEmpty links) }
-        ensures sets { IfOk result (λ links. (dir : ℕ) → has_sets links dir ≡ false) }
-        ensures spare { IfOk result (λ links. links.spare ≡ 0) }
+    pub fn new(alloc: Global) -> Links
+        ensures { result ≡ record { dirs = []; spare = 0 } }
     {
-        let pool = SetPool::new(alloc)?;
-        Ok(Links {
+        Links {
             dirs: IndexMap::new(alloc),
-            pool,
-        })
+            pool: SetPool::new(alloc),
+        }
     }
 
     /// Ensures that a directory has its sets, and that there is memory for `count` calls of

@@ -1,10 +1,11 @@
 //! The four sets of one directory, within the pool that all directories share.
-ghost use Rattle.std.specs.Prelude.{◌≡◌, ◌+◌, ◌<◌, ◌≤◌, [], length, None, Some};
+ghost use Rattle.std.specs.Prelude.{◌≡◌, ◌+◌, ◌<◌, ◌≤◌, [], length, None, Some, IsTrue};
+ghost use Rattle.std.specs.Prelude.{if◌then◌else◌};
 ghost use Rattle.set_pool.specs.Rising.{first_from, is_among};
-ghost use Rattle.set_pool.specs.Sets.{AllListsRise, SameLive};
+ghost use Rattle.set_pool.specs.Sets.{AllListsRise, Changes, SameLive, is_live, members_of};
 ghost use Rattle.link_kinds.specs.Kept.{AreDistinct, AreFresh, AreLive, ChangesAll, OthersStay};
 ghost use Rattle.link_kinds.specs.Kept.{dir_lists};
-ghost use Rattle.link_kinds.specs.Kinds.{items_of, kind_in, with_kind, with_lent};
+ghost use Rattle.link_kinds.specs.Kinds.{items_of, kind_in, listed, with_kind, with_lent};
 ghost use Rattle.link_kinds.specs.Seen.{LosesOneAtMost};
 
 use hac_model::{Kind, Number};
@@ -85,29 +86,9 @@ impl DirSets {
         ensures spare { LosesOneAtMost pool.old.spare pool.new.spare }
         ensures rise { AllListsRise pool.new }
     {
-        let item = item.get();
-        match kind {
-            Kind::Transient => {
-                pool.insert(self.transient, item);
-                pool.remove(self.permanent, item);
-                pool.remove(self.prohibited, item);
-            }
-            Kind::Permanent => {
-                pool.remove(self.transient, item);
-                pool.insert(self.permanent, item);
-                pool.remove(self.prohibited, item);
-            }
-            Kind::Prohibited => {
-                pool.remove(self.transient, item);
-                pool.remove(self.permanent, item);
-                pool.insert(self.prohibited, item);
-            }
-            Kind::Unlinked => {
-                pool.remove(self.transient, item);
-                pool.remove(self.permanent, item);
-                pool.remove(self.prohibited, item);
-            }
-        }
+        set_listed(pool, self.transient, item, kind.is_transient());
+        set_listed(pool, self.permanent, item, kind.is_permanent());
+        set_listed(pool, self.prohibited, item, kind.is_prohibited());
     }
 
     /// The item is lent to the directory, or no longer is.
@@ -122,12 +103,7 @@ impl DirSets {
         ensures spare { LosesOneAtMost pool.old.spare pool.new.spare }
         ensures rise { AllListsRise pool.new }
     {
-        let item = item.get();
-        if on {
-            pool.insert(self.lent, item);
-        } else {
-            pool.remove(self.lent, item);
-        }
+        set_listed(pool, self.lent, item, on);
     }
 
     /// Four new sets, which are empty.
@@ -163,5 +139,22 @@ impl DirSets {
         pool.free(self.permanent);
         pool.free(self.prohibited);
         pool.free(self.lent);
+    }
+}
+
+/// Puts an item into a set, or takes it out.
+fn set_listed(pool: &mut SetPool, set: SetId, item: Number, on: bool)
+    requires live { IsTrue (is_live pool.old set) }
+    requires room { IsTrue on → 0 < pool.old.spare }
+    ensures list { Changes pool.old pool.new set
+        (Some (listed on item (members_of pool.old set))) }
+    ensures live { SameLive pool.old pool.new }
+    ensures spare { pool.new.spare + (if on then 1 else 0) ≡ pool.old.spare }
+    ensures rise { AllListsRise pool.new }
+{
+    if on {
+        pool.insert(set, item.get());
+    } else {
+        pool.remove(set, item.get());
     }
 }

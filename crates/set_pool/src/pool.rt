@@ -1,11 +1,11 @@
 //! The pool: sets by name, and what was set aside for those to come. It knows nothing of how a set
 //! is kept.
-ghost use Rattle.std.specs.Prelude.{◌≡◌, ◌+◌, ◌<◌, ◌≤◌, [], length, max, not, IfOk, IsTrue, None};
-ghost use Rattle.std.specs.Prelude.{OnErr, OnOk, Some, false, vec_len, ℕ};
+ghost use Rattle.std.specs.Prelude.{◌≡◌, ◌+◌, ◌<◌, ◌≤◌, [], length, max, not, IsTrue, None};
+ghost use Rattle.std.specs.Prelude.{OnErr, OnOk, Some, false, vec_len};
 ghost use Rattle.set_pool.specs.Rising.{first_from, inserted, is_among, removed};
 ghost use Rattle.set_pool.specs.Sets.{AllListsRise, BeginsSet, Changes, Clears, Drops, EndsSet};
 ghost use Rattle.set_pool.specs.Sets.{Joins, Leaves, SameLive, SameMembers, SameSets, SpendsNone};
-ghost use Rattle.set_pool.specs.Sets.{SpendsOne, is_in, is_live, list_of, members_of};
+ghost use Rattle.set_pool.specs.Sets.{SpendsOne, is_in, is_live, members_of};
 
 use crate::rows::Row;
 use crate::slots::Slots;
@@ -56,18 +56,17 @@ impl Model for SetPool {
 }
 
 impl SetPool {
-    /// A pool without sets, in which nothing is spare.
-    pub fn new(alloc: Global) -> Result<SetPool, AllocError>
-        ensures none { IfOk result (λ pool. (set : ℕ) → list_of pool set ≡ None) }
-        ensures spare { IfOk result (λ pool. pool.spare ≡ 0) }
+    /// A pool without sets, in which nothing is spare or set aside.
+    pub fn new(alloc: Global) -> SetPool
+        ensures { result ≡ record { lists = []; spare = 0; aside = 0 } }
     {
-        Ok(SetPool {
+        SetPool {
             alloc,
             slots: Slots::new(alloc),
             blocks: Vec::new(alloc),
             spare: 0,
             granted: 0,
-        })
+        }
     }
 
     /// Sets aside what `count` calls of `make` and `insert` may need. What is left of earlier calls
@@ -78,7 +77,7 @@ impl SetPool {
         ensures names { length self.new.lists ≤ length self.old.lists + count }
         ensures same { SameSets self.old self.new }
 
-        // If memory ran out, all is as before.
+        // If memory ran out, no more calls are spare. Names and blocks that were taken stay.
         ensures err { OnErr result (self.new.spare ≡ self.old.spare) }
     {
         let more = count.saturating_sub(self.spare);

@@ -66,7 +66,7 @@ fn kept_beside(alloc: Global, entries: &[Entry]) -> Result<Beside, Memory>
     ensures { IfOk result (AreBeside (tree.is_directory_at entries.now) entries.now) }
 {
     let mut beside = Beside {
-        marks: Links::new(alloc)?,
+        marks: Links::new(alloc),
         answers: IndexMap::new(alloc),
         graph: Graph::new(alloc),
     };

@@ -23,5 +23,4 @@ pub use asking::{Question, questions, told_for};
 pub use lines::data_lines;
 pub use marking::{is_linked, is_marked, is_permanent, may_mark};
 pub use mount_events::{mounting, syncing};
-pub use numbering::documents_named;
 pub use referring::{is_unreferenced, least_referrer};

@@ -14,7 +14,7 @@ use std::alloc::Global;
 
 /// The documents of a mount that have one of these names, in order of number. Other names count for
 /// nothing.
-pub fn documents_named(
+pub(crate) fn documents_named(
     alloc: Global,
     tree: &Tree,
     mount: Number,

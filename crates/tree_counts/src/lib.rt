@@ -7,4 +7,3 @@ mod depths;
 mod mounting;
 
 pub use counting::counts_after;
-pub use mounting::{counts_mounted, counts_synced, counts_unmounted};

@@ -14,7 +14,7 @@ use hac_model::{Counts, DOCS_LIMIT, Name, Number, Seq};
 
 /// How much the state would hold with a mount in a directory that has `count` documents. It may
 /// exceed limits. A name has to fit below the mount, whether it has documents or not.
-pub fn counts_mounted(tree: &Tree, dir: Number, count: u64) -> Counts
+pub(crate) fn counts_mounted(tree: &Tree, dir: Number, count: u64) -> Counts
     requires dir { IsTrue (is_directory_at tree.now.state.entries dir) }
     requires few { count ≤ DOCS_LIMIT }
     ensures { (name space : List ℕ) (answers : List Answer) (documents : List (List ℕ)) →
@@ -27,7 +27,7 @@ pub fn counts_mounted(tree: &Tree, dir: Number, count: u64) -> Counts
 
 /// How much the state would hold once a mount has documents of these names, and no others. It may
 /// exceed limits.
-pub fn counts_synced(tree: &Tree, mount: Number, documents: &Seq<Name>) -> Counts
+pub(crate) fn counts_synced(tree: &Tree, mount: Number, documents: &Seq<Name>) -> Counts
     requires mount { IsTrue (is_mount_at tree.now.state.entries mount) }
     requires documents { IsTrue (are_documents documents.now) }
     ensures { result ≡ counts (with_documents (without_such (is_gone mount documents.now)
@@ -54,7 +54,7 @@ fn count_fresh(tree: &Tree, dir: Number, names: &[Name]) -> u64
 }
 
 /// How much the state would hold without a mount and its documents.
-pub fn counts_unmounted(tree: &Tree, mount: Number) -> Counts
+pub(crate) fn counts_unmounted(tree: &Tree, mount: Number) -> Counts
     requires { IsTrue (is_mount_at tree.now.state.entries mount) }
     ensures { result ≡ counts (without_such (is_of_mount mount) tree.now.state) }
 {

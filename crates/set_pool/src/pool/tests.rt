@@ -9,7 +9,7 @@ use std::test::Fail;
 
 #[test]
 fn each_set_has_its_own_numbers(rt: HostRuntime) -> Result<(), Fail> {
-    let mut pool = SetPool::new(rt.alloc())?;
+    let mut pool = SetPool::new(rt.alloc());
     pool.reserve(5)?;
     let a = pool.make();
     let b = pool.make();
@@ -27,7 +27,7 @@ fn each_set_has_its_own_numbers(rt: HostRuntime) -> Result<(), Fail> {
 
 #[test]
 fn a_freed_name_comes_again(rt: HostRuntime) -> Result<(), Fail> {
-    let mut pool = SetPool::new(rt.alloc())?;
+    let mut pool = SetPool::new(rt.alloc());
     pool.reserve(3)?;
     let a = pool.make();
     let b = pool.make();
@@ -40,7 +40,7 @@ fn a_freed_name_comes_again(rt: HostRuntime) -> Result<(), Fail> {
 
 #[test]
 fn a_lone_number_takes_no_block(rt: HostRuntime) -> Result<(), Fail> {
-    let mut pool = SetPool::new(rt.alloc())?;
+    let mut pool = SetPool::new(rt.alloc());
     pool.reserve(3)?;
     let a = pool.make();
     pool.insert(a, 5);
@@ -102,7 +102,7 @@ fn thin(pool: &mut SetPool, set: SetId, step: u64)
 #[test]
 fn trees_stay_level(rt: HostRuntime) -> Result<(), Fail> {
     for step in [1, 1008, 385] {
-        let mut pool = SetPool::new(rt.alloc())?;
+        let mut pool = SetPool::new(rt.alloc());
         pool.reserve(1)?;
         let set = pool.make();
         grow(&mut pool, set, step)?;

@@ -12,4 +12,4 @@ unmount-requires-clause-mount c = gone-mount c.args.kept.now c.args.mount c.requ
 pub returns : goal.returns
 returns c =
     unmount-put c.args.kept.now c.requires.linked c.args.mount c.requires.happens c.unmount.new.self c.forget_mount.new.marks c.drop_mount.new.self (ap (λ (t : Seen). t.state) c.unmount.ensures)
-    c.forget_mount.ensures.lists c.forget_mount.ensures.sets c.drop_mount.ensures
+    c.forget_mount.ensures.lists c.forget_mount.ensures.sets c.drop_mount.ensures.kept

@@ -1,13 +1,10 @@
 use Rattle.std.proofs.Common.{ap}
 use Rattle.file_tree.specs.Seen.{Seen}
-use Rattle.kept_state.proofs.MountPutLemmas.{is-ready, mount-put, mount-rise, put-answers}
+use Rattle.kept_state.proofs.MountPutLemmas.{mount-put, mount-rise, put-answers}
 use Rattle.kept_state.proofs.ready.put_mount.Goals as goal
 
 pub mount-requires-clause-rise : goal.mount-requires-clause-rise
 mount-requires-clause-rise c = mount-rise c.args.kept.now c.args.dir c.args.name c.args.space c.args.documents c.args.told c.requires.may.happens
-
-pub put-requires : goal.put-requires
-put-requires c = is-ready c.args.kept.now c.args.kept.now.tree.state.next c.args.told c.requires.suits.1
 
 pub returns : goal.returns
 returns c =

@@ -12,5 +12,5 @@ put_edges-requires c = let kept = c.args.kept.now in will-ready kept.graph c.arg
 pub returns : goal.returns
 returns c =
     let kept = c.args.kept.now in
-    query-put kept c.requires.may.linked c.args.dir c.args.query c.args.told c.requires.may.happens c.requires.suits.1 c.set_query.new.self c.put_edges.new.graph c.put_told.new.self (ap (λ (t : Seen). t.state) c.set_query.ensures)
-    (c.put_edges.ensures c.args.dir (edges_then kept c.args.dir (parent_of kept.tree.state c.args.dir) (Some c.args.query)) c.requires.suits.0) c.put_told.ensures
+    query-put kept c.requires.may.linked c.args.dir c.args.query c.args.told c.requires.may.happens c.requires.suits.1 c.set_query.new.self c.put_edges.new.graph c.put.new.self (ap (λ (t : Seen). t.state) c.set_query.ensures)
+    (c.put_edges.ensures c.args.dir (edges_then kept c.args.dir (parent_of kept.tree.state c.args.dir) (Some c.args.query)) c.requires.suits.0) c.put.ensures.kept

@@ -12,5 +12,5 @@ pub returns : goal.returns
 returns c =
     let kept = c.args.kept.now in
     let next = kept.tree.state.next in
-    semantic-put kept c.requires.may.linked c.args.dir c.args.name c.args.query c.args.told c.requires.may.happens c.requires.suits.2 c.add.new.self c.put_edges.new.graph c.put_told.new.self (ap (λ (t : Seen). t.state) c.add.ensures)
-    (c.put_edges.ensures next (edges_then kept next c.args.dir (Some c.args.query)) c.requires.suits.1) c.put_told.ensures
+    semantic-put kept c.requires.may.linked c.args.dir c.args.name c.args.query c.args.told c.requires.may.happens c.requires.suits.2 c.add.new.self c.put_edges.new.graph c.put.new.self (ap (λ (t : Seen). t.state) c.add.ensures)
+    (c.put_edges.ensures next (edges_then kept next c.args.dir (Some c.args.query)) c.requires.suits.1) c.put.ensures.kept

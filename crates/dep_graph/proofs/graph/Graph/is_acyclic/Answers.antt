@@ -28,4 +28,4 @@ returns c =
           w.result-is ∙ last ∙ ap (λ (b : Bool). b && settled) (sym w.if-lead_back.true ∙ back))
       | else-lead_back w ↦ w.result-is ∙ w.if-lead_back.false ∙ ap (λ (b : Bool). b && settled) (sym w.if-lead_back.false ∙ back)
     ] in
-    Decides-at c.if-lead_back.result both told (acyclic-Decides edges dirs numbers placed fresh c.in_ok-dirs.ensures (subst (λ (ns : List ℕ). NeverReturns edges → AreSources edges ns numbers) c.as_slice.ensures.value c.in_ok-numbers.ensures))
+    Decides-at c.if-lead_back.result both told (acyclic-Decides edges dirs numbers placed fresh (λ q some. (c.in_ok-dirs.ensures.all q).1 some) (subst (λ (ns : List ℕ). NeverReturns edges → AreSources edges ns numbers) c.as_slice.ensures.value c.in_ok-numbers.ensures))

@@ -1,0 +1,7 @@
+use Rattle.std.proofs.Common.{◌≡◌, ◌++◌}
+use Rattle.dep_graph.proofs.ReferLemmas.{chosen, leads, nodes_of}
+use Rattle.dep_graph.proofs.graph.Graph.directories.Given as goal
+
+-- those found, and those among the nodes that are left, are all
+abbrev pub invariant-loop-number : goal.invariant-loop-number
+invariant-loop-number l = l.numbers.items ++ chosen leads (nodes_of l.number-iterator) ≡ chosen leads l.self.nodes
