@@ -23,9 +23,6 @@ use std::sync::ledger::Ledger;
 // The most index steps that one append takes.
 const BATCH: u64 = 4_096;
 
-/// How many bytes the payload of an index step has.
-pub const STEP_BYTES: u64 = 2;
-
 /// Decides what a line asks for, given what was taken of the bytes behind it, and stores what it
 /// changes. Gives the reply.
 pub fn store_line<D: Disk, P: Spaces, L: Ledger>(
@@ -102,7 +99,7 @@ pub fn store_steps<D: Disk, L: Ledger>(
     ensures probes { probes.new ≤ probes.old
         + storing_cost store.old.setting (replicate count event.Step) }
 {
-    if !store.room_for(count, STEP_BYTES) {
+    if !store.room_for_steps(count) {
         return Err(StoreFault::Full);
     }
     let mut left = count;

@@ -6,7 +6,7 @@ ghost use Rattle.hac_model.specs.Tree.Costs.{costs};
 ghost use Rattle.hac_model.specs.declared.events.Event.TheVariants as event;
 ghost use Rattle.hac_top.specs.Storing.{IsUsable, StoresSteps};
 
-use crate::storing::{STEP_BYTES, store_steps};
+use crate::storing::store_steps;
 use hac_disk::Disk;
 use hac_outside::Steps;
 use hac_store::{Store, StoreFault};
@@ -48,14 +48,14 @@ fn steps_with_room(store: &Store, wanted: u64) -> u64
     ensures most { (result ≡ wanted) ⊎
         (have_room store.now.setting (replicate (result + 1) event.Step) ≡ false) }
 {
-    if store.room_for(wanted, STEP_BYTES) {
+    if store.room_for_steps(wanted) {
         return wanted;
     }
     let mut fits = 0;
     let mut past = wanted;
     while past - fits > 1 {
         let middle = fits + (past - fits) / 2;
-        if store.room_for(middle, STEP_BYTES) {
+        if store.room_for_steps(middle) {
             fits = middle;
         } else {
             past = middle;

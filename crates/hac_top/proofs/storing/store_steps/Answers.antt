@@ -1,4 +1,4 @@
-use Rattle.std.proofs.Common.{◌+◌, ◌-◌, Err, ap, refl, sym, ◌∙◌, arith, rules}
+use Rattle.std.proofs.Common.{◌+◌, ◌-◌, Err, ap, refl, sym, ◌∙◌, arith}
 use Rattle.std.proofs.lemmas.Result.{err_from_is_err_and}
 use Rattle.hac_store.specs.Stores.{Seen}
 use Rattle.hac_store.proofs.RoomLemmas.{steps-have-room}
@@ -7,14 +7,15 @@ use Rattle.hac_top.proofs.StoringLemmas.{all-stepped, none-stepped, part-happens
 use Rattle.hac_top.proofs.StoringLemmas.{full-turn}
 use Rattle.hac_top.proofs.storing.store_steps.Goals as goal
 
-pub returns-then-not-room_for-clause-stores : goal.returns-then-not-room_for-clause-stores
-returns-then-not-room_for-clause-stores g c = full-turn g.met.D.Disk.only_now c.args.disk.now c.args.store.now (steps c.args.count) c.requires.usable.place (steps-have-room c.args.store.now.setting c.args.count ∙ search rules)
+pub returns-then-not-room_for_steps-clause-stores : goal.returns-then-not-room_for_steps-clause-stores
+returns-then-not-room_for_steps-clause-stores g c =
+    full-turn g.met.D.Disk.only_now c.args.disk.now c.args.store.now (steps c.args.count) c.requires.usable.place (sym c.room_for_steps.ensures ∙ c.if-not-room_for_steps.true)
 
 pub loop-left-init : goal.loop-left-init
 loop-left-init g c =
     record {
       within = omega arith;
-      so_far = none-stepped g.met.D.Disk.only_now c.args.disk.now c.args.store.now (c.args.count - c.args.count) c.args.count (omega arith) (sym c.room_for.ensures ∙ c.if-not-room_for.false) c.requires.usable.place;
+      so_far = none-stepped g.met.D.Disk.only_now c.args.disk.now c.args.store.now (c.args.count - c.args.count) c.args.count (omega arith) (sym (steps-have-room c.args.store.now.setting c.args.count) ∙ sym c.room_for_steps.ensures ∙ c.if-not-room_for_steps.false) c.requires.usable.place;
       asks = omega arith;
     }
 

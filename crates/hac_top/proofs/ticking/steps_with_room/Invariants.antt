@@ -1,5 +1,6 @@
-use Rattle.std.proofs.Common.{◌≡◌, ◌<◌, ◌≤◌, ◌-◌, true, false}
-use Rattle.hac_store.specs.Stores.{fit_behind}
+use Rattle.std.proofs.Common.{◌≡◌, ◌<◌, ◌≤◌, ◌-◌, false, replicate, true}
+use Rattle.hac_model.specs.Run.Play.{have_room}
+use Rattle.hac_model.specs.declared.events.Event.TheVariants.{Step}
 use Rattle.hac_top.proofs.ticking.steps_with_room.Given as goal
 
 -- the store has room for `fits` steps and for no `past`
@@ -8,8 +9,8 @@ invariant-loop-past l =
     record {
       within : l.past ≤ l.fn.wanted;
       some : l.fits < l.past;
-      room : fit_behind l.fn.store.setting.state.version l.fn.store.setting.end l.fits 2 ≡ true;
-      full : fit_behind l.fn.store.setting.state.version l.fn.store.setting.end l.past 2 ≡ false;
+      room : have_room l.fn.store.setting (replicate l.fits Step) ≡ true;
+      full : have_room l.fn.store.setting (replicate l.past Step) ≡ false;
     }
 
 abbrev pub decreases-loop-past : goal.decreases-loop-past
