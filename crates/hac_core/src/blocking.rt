@@ -104,7 +104,7 @@ fn fits_links(alloc: Global, linked: &LinkedState, command: &Resolved) -> Result
     }
 }
 
-/// The root can't be removed or moved.
+/// The root can't be removed or moved, and gets no query.
 fn not_root(number: Number) -> Result<(), Deny>
     ensures { Passes result (root_cause number) }
 {

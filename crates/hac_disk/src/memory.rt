@@ -58,7 +58,7 @@ impl MemoryDisk {
     /// A disk that holds `head`, `gap` zeros and `tail`, with nothing pending and nothing attached.
     /// It has room for `bytes` bytes, written or in names, and for `calls` calls. A call whose
     /// number, from 1, is in `failing` is a fault. The gap takes no memory. If 64 bits can't count
-    /// all of it, the answer is `Memory`.
+    /// all of it, the answer is `AllocError`.
     pub fn new(
         alloc: Global,
         head: &[u8],

@@ -9,7 +9,7 @@ use byteorder::{ByteOrder, LittleEndian};
 pub enum Next {
     /// A record, its payload, and the place of the gate behind it.
     Entry {
-        /// The bytes of the record.
+        /// The payload of the record, without its gate and its length.
         payload: Vec<u8>,
         /// Where to look next.
         next: u64,
