@@ -135,16 +135,7 @@ fn settle_first<L: Ledger>(
         item: file,
     };
     let past = Past { kept, found };
-    settle_all(
-        alloc,
-        &fitted,
-        &fitted,
-        &past,
-        stops,
-        &[file],
-        delta,
-        probes,
-    )
+    settle_all(alloc, &fitted, &past, stops, &[file], delta, probes)
 }
 
 /// The same of a file that showed a text, or of one that is judged in each directory.
@@ -170,16 +161,7 @@ fn settle_again<L: Ledger>(
     let past = Past { kept, found };
     let stops = stops_of(alloc, &indexing, way, file)?;
     let stops = stops.as_slice();
-    settle_all(
-        alloc,
-        &indexing,
-        &indexing,
-        &past,
-        stops,
-        &[file],
-        delta,
-        probes,
-    )
+    settle_all(alloc, &indexing, &past, stops, &[file], delta, probes)
 }
 
 /// The text of a file that is indexed for the first time, if its words are to be listed.

@@ -1,4 +1,4 @@
-use Rattle.std.proofs.Common.{◌≡◌, List, ap, arith, refl, subst, sym}
+use Rattle.std.proofs.Common.{◌≡◌, List, ap, arith, subst, sym}
 use Rattle.reeval.specs.Probes.{terms_along}
 use Rattle.reeval.specs.Routes.{Covers}
 use Rattle.reeval.specs.declared.settling.Stop.{Stop}
@@ -11,7 +11,7 @@ returns-clause-settled g c =
     let s = c.args.ahead.now.kept.now.state in
     let t = indexed_through c.args.ahead.now.last s in
     let stops = c.as_slice-stops.result.now in
-    settled-if c.settle_all.result s t stops c.args.file c.args.delta.now.items c.settle_all.new.delta.items refl
+    settled-if c.settle_all.result s t stops c.args.file c.args.delta.now.items c.settle_all.new.delta.items
     (subst (λ (all : List Stop). Covers s t all c.args.file) (sym c.as_slice-stops.ensures.value) c.in_ok-stops.ensures.covers) c.settle_all.ensures.settled
 
 pub returns-clause-probes : goal.returns-clause-probes

@@ -1,4 +1,4 @@
-use Rattle.std.proofs.Common.{◌≡◌, ℕ, List, ap, arith, refl, subst, sym, ◌∙◌}
+use Rattle.std.proofs.Common.{◌≡◌, ℕ, List, ap, arith, subst, sym, ◌∙◌}
 use Rattle.std.specs.Prelude.{None, Option, map}
 use Rattle.hac_model.specs.Query.Words.{words}
 use Rattle.hac_model.specs.Tree.Links.{query_at}
@@ -47,7 +47,7 @@ returns-clause-settled g c =
     let begun : Covers s t (begun_at (may_begin s None text) way.stops.items) c.args.file =
     subst (λ (old : Option (List ℕ)). Covers s t (begun_at (may_begin s old text) way.stops.items) c.args.file) c.requires.first
     (covered-text s last c.args.file text c.requires.shows way w c.know_valid.ensures c.requires.ahead.valid) in
-    settled-if c.settle_all.result s t stops c.args.file c.args.delta.now.items c.settle_all.new.delta.items refl
+    settled-if c.settle_all.result s t stops c.args.file c.args.delta.now.items c.settle_all.new.delta.items
     (subst (λ (all : List Stop). Covers s t all c.args.file) (sym (c.as_slice-stops.ensures.value ∙ c.in_ok-stops.ensures s text fit))
     (covers-needed s t (begun_at (may_begin s None text) way.stops.items) c.args.file begun)) c.settle_all.ensures.settled
 
