@@ -11,7 +11,7 @@ ghost use Rattle.reindex.specs.Ways.{IsWayOf};
 use crate::fitted::Fitted;
 use crate::indexing::{Indexing, shown_of};
 use crate::lookups::{is_document, is_item, know_lists};
-use crate::texts::{fit_of, stops_fitting};
+use crate::texts::stops_fitting;
 use crate::unjudged::Unjudged;
 use crate::ways::{FEW_STOPS, Way};
 use hac_model::{Memory, Number};
@@ -177,7 +177,7 @@ fn news_of_text<L: Ledger>(
     ensures probes { probes.new ≤ probes.old + weight kept.now.state }
 {
     kept.know_valid();
-    let fit = fit_of(alloc, &way.index, text)?;
+    let fit = way.index.fitting(text)?;
     let stops = stops_fitting(alloc, way, &fit)?;
     let present = Indexing {
         kept,

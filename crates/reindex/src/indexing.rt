@@ -17,7 +17,7 @@ use reeval::Layout;
 use std::sync::ledger::Ledger;
 
 /// A state, seen as that in which each file whose number isn't above `last` shows its text.
-#[derive(Drop)]
+#[derive(Clone, Copy)]
 pub(crate) struct Indexing<'a> {
     pub(crate) kept: &'a KeptState,
     pub(crate) last: Number,

@@ -156,8 +156,8 @@ pub(crate) fn stops_of_way(alloc: Global, way: &Way) -> Result<Vec<Stop>, Memory
     Ok(Vec::from_slice(alloc, way.stops.as_slice())?)
 }
 
-/// The same stops, where judging begins at those of these places, but for those at which nothing is
-/// judged: it doesn't begin there, and they lean on none.
+/// The stops at which an item may be judged: those of these places, where judging begins, and all
+/// that lean on others.
 pub(crate) fn stops_begun(alloc: Global, way: &Way, places: &[usize]) -> Result<Vec<Stop>, Memory>
     requires leans { way.now.leans ≡ any_leans way.now.stops.items }
     requires rise { RiseFrom 0 places.now }
@@ -172,7 +172,7 @@ pub(crate) fn stops_begun(alloc: Global, way: &Way, places: &[usize]) -> Result<
     }
 }
 
-/// They are those of the places, where none leans on others.
+/// The same where none leans on another.
 fn stops_there(alloc: Global, stops: &[Stop], places: &[usize]) -> Result<Vec<Stop>, Memory>
     ensures { IfOk result (λ begun. begun.items ≡ flat_map (begun_there stops.now) places.now) }
 {
@@ -197,7 +197,7 @@ fn add_begun(stops: &[Stop], place: usize, begun: &mut Vec<Stop>) -> Result<(), 
     Ok(())
 }
 
-/// They are those, and others that lean on some.
+/// The same where some do.
 fn stops_needed(alloc: Global, stops: &[Stop], places: &[usize]) -> Result<Vec<Stop>, Memory>
     requires { RiseFrom 0 places.now }
     ensures { (begins : ℕ → Bool) → AreThose (begins_there begins stops.now) places.now
