@@ -5,6 +5,7 @@ ghost use Rattle.std.specs.List.{list_any};
 ghost use Rattle.hac_model.specs.Tree.Links.{is_semantic, lenders, query_at};
 ghost use Rattle.hac_model.specs.Tree.Links.{has};
 ghost use Rattle.hac_model.specs.Tree.Valid.{RiseFrom};
+ghost use Rattle.hac_model.specs.declared.states.State.{State};
 ghost use Rattle.query_index.specs.Numbers.{AreThose};
 ghost use Rattle.query_index.specs.Seen.{IsIndexOf};
 ghost use Rattle.reindex.specs.Ways.{IsWayOf, IsWayOver, any_leans, begins_there, begun_at};
@@ -25,10 +26,24 @@ pub struct Way {
     pub stops: Vec<Stop>,
     /// Their queries, in the same order.
     pub index: QueryIndex,
-    /// Whether directories may have been added to some of them.
+    /// Whether directories were added to some of them.
     pub lends: bool,
     /// Whether one of them may depend on another.
     pub leans: bool,
+}
+
+impl Way {
+    /// The way to no directory.
+    pub fn new(alloc: Global) -> Way
+        ensures { (s : State) → IsWayOver s [] result }
+    {
+        Way {
+            stops: Vec::new(alloc),
+            index: QueryIndex::new(alloc),
+            lends: false,
+            leans: false,
+        }
+    }
 }
 
 /// Up to this many directories an item is judged in each: that takes less time than it takes to

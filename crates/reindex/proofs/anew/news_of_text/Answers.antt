@@ -34,7 +34,7 @@ invariant_of-fitted g c =
     let w = c.requires.way in
     fit-tells (map (query_at s) w.order) c.in_ok-fit.fit (indexed_through 0 s) c.args.item c.args.text.now
     (subst (λ (t : State). shown_of t c.args.item ≡ Some c.args.text.now) (sym (indexed-none s c.know_valid.ensures.layout)) c.requires.shows)
-    (c.in_ok-fit.ensures (map (query_at s) w.order) w.index)
+    (c.in_ok-fit.ensures (map (query_at s) w.order) w.over.index)
 
 pub news_along-requires-clause-way : goal.news_along-requires-clause-way
 news_along-requires-clause-way g c =

@@ -30,7 +30,7 @@ invariant_of-fitted g c =
     let s = c.args.ahead.now.indexing.kept.now.state in
     let w = c.requires.ahead.way in
     fit-tells (map (query_at s) w.order) c.in_ok-fit.fit (indexed_through c.args.ahead.now.indexing.last s) c.args.file c.args.text.now c.requires.shows
-    (c.in_ok-fit.ensures (map (query_at s) w.order) w.index)
+    (c.in_ok-fit.ensures (map (query_at s) w.order) w.over.index)
 
 pub settle_at-requires-clause-covers : goal.settle_at-requires-clause-covers
 settle_at-requires-clause-covers g c =
