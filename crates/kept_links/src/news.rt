@@ -144,7 +144,7 @@ fn news_from<L: Ledger>(
     let way = way_next(alloc, kept, &outlook, first)?;
     let task = task_from(alloc, kept, &outlook, event, &way, first)?;
     let past = Past { kept, found };
-    let delta = plan(alloc, &outlook, &outlook, &past, &task, probes)?;
+    let delta = plan(alloc, &outlook, &past, &task, probes)?;
     Ok(News {
         delta,
         way: Some(way),

@@ -8,7 +8,6 @@ use hac_model::{Event, Number, Query, Term};
 use hac_outside::Steps;
 use hac_words::has_term;
 use kept_state::KeptState;
-use query_eval::Atoms;
 use reeval::Layout;
 use scope_rules::Scope;
 use std::marker::Model;
@@ -103,10 +102,6 @@ impl<'a> Layout for Outlook<'a> {
     fn depends(&self, dir: Number) -> &[Number] {
         self.kept.depends_next(dir)
     }
-}
-
-impl<'a> Atoms for Outlook<'a> {
-    ghost atoms = { λ outlook. atom outlook };
 
     fn has<L: Ledger>(&self, term: &Term, item: Number, probes: &mut Steps<L>) -> bool {
         probes.tick();

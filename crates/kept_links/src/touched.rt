@@ -62,7 +62,7 @@ fn delta_of_move<L: Ledger>(
     let items = touched_items(alloc, kept, &outlook, event)?;
     let past = Past { kept, found };
     let items = items.as_slice();
-    delta_of_moved(alloc, &outlook, &outlook, &past, way, items, probes)
+    delta_of_moved(alloc, &outlook, &past, way, items, probes)
 }
 
 /// The same of items that go.
@@ -106,5 +106,5 @@ fn delta_of_task<L: Ledger>(
     let outlook = Outlook::new(kept, event);
     let task = task_of_touched(alloc, kept, &outlook, event, way)?;
     let past = Past { kept, found };
-    plan(alloc, &outlook, &outlook, &past, &task, probes)
+    plan(alloc, &outlook, &past, &task, probes)
 }

@@ -13,26 +13,38 @@ ghost use Rattle.reeval.specs.Told.{told};
 use crate::before::Before;
 use crate::layout::Layout;
 use crate::verdicts::{Change, Verdict, latest};
-use hac_model::{Member, Number, Query};
+use hac_model::{Member, Number, Query, Term};
 use hac_outside::Steps;
 use query_eval::{Atoms, judge};
 use std::sync::ledger::Ledger;
 
+/// The terms that items have in the next state.
+#[derive(Clone, Copy)]
+struct NextTerms<'a, Y: Layout> {
+    layout: &'a Y,
+}
+
+impl<'a, Y: Layout> Atoms for NextTerms<'a, Y> {
+    ghost atoms = { λ next. atom (Y.state next.layout.now) };
+
+    fn has<L: Ledger>(&self, term: &Term, item: Number, probes: &mut Steps<L>) -> bool {
+        self.layout.has(term, item, probes)
+    }
+}
+
 /// What an item is judged by: the next state, and the links before it with what is known to be new
 /// for the item.
 #[derive(Clone, Copy)]
-pub(crate) struct Sight<'a, Y: Layout, A: Atoms, B: Before> {
-    /// The next state, but for terms and links.
+pub(crate) struct Sight<'a, Y: Layout, B: Before> {
+    /// The next state, but for links.
     pub(crate) layout: &'a Y,
-    /// Which terms items have in it.
-    pub(crate) atoms: &'a A,
     /// The links before.
     pub(crate) before: &'a B,
     /// The verdicts on the item that are new so far.
     pub(crate) news: &'a [Change],
 }
 
-impl<'a, Y: Layout, A: Atoms, B: Before> Member for Sight<'a, Y, A, B> {
+impl<'a, Y: Layout, B: Before> Member for Sight<'a, Y, B> {
     ghost provides = { λ sight dir item. provide (Y.state sight.layout.now)
         (is_linked (told sight.news.now (verdict_of (B.state sight.before.now) item))) dir item };
 
@@ -41,7 +53,7 @@ impl<'a, Y: Layout, A: Atoms, B: Before> Member for Sight<'a, Y, A, B> {
     }
 }
 
-impl<'a, Y: Layout, A: Atoms, B: Before> Sight<'a, Y, A, B> {
+impl<'a, Y: Layout, B: Before> Sight<'a, Y, B> {
     /// Whether an item is linked in a directory, or was added to it.
     fn is_link(&self, dir: Number, item: Number) -> bool
         ensures { result ≡ (is_semantic (Y.state self.now.layout.now) dir
@@ -70,8 +82,7 @@ impl<'a, Y: Layout, A: Atoms, B: Before> Sight<'a, Y, A, B> {
         asks: bool,
         probes: &mut Steps<L>,
     ) -> Verdict
-        ensures verdict { A.atoms self.now.atoms.now ≡ atom (Y.state self.now.layout.now) →
-            (asks ≡ false →
+        ensures verdict { (asks ≡ false →
             (told self.now.news.now (verdict_of (B.state self.now.before.now) item) dir).found
             ≡ (judgement (Y.state self.now.layout.now)
             (is_linked (told self.now.news.now (verdict_of (B.state self.now.before.now) item)))
@@ -105,7 +116,6 @@ impl<'a, Y: Layout, A: Atoms, B: Before> Sight<'a, Y, A, B> {
     ) -> bool
         requires { query_at (Y.state self.now.layout.now) dir ≡ Some query.now }
         ensures finds { IsTrue (is_item (Y.state self.now.layout.now) item) →
-            A.atoms self.now.atoms.now ≡ atom (Y.state self.now.layout.now) →
             result ≡ (if asks then passes (Y.state self.now.layout.now)
             (is_linked (told self.now.news.now (verdict_of (B.state self.now.before.now) item)))
             dir item
@@ -131,7 +141,6 @@ impl<'a, Y: Layout, A: Atoms, B: Before> Sight<'a, Y, A, B> {
     ) -> bool
         requires { query_at (Y.state self.now.layout.now) dir ≡ Some query.now }
         ensures passes { IsTrue (is_item (Y.state self.now.layout.now) item) →
-            A.atoms self.now.atoms.now ≡ atom (Y.state self.now.layout.now) →
             result ≡ passes (Y.state self.now.layout.now)
             (is_linked (told self.now.news.now (verdict_of (B.state self.now.before.now) item)))
             dir item }
@@ -150,13 +159,15 @@ impl<'a, Y: Layout, A: Atoms, B: Before> Sight<'a, Y, A, B> {
         item: Number,
         probes: &mut Steps<L>,
     ) -> bool
-        ensures satisfies { A.atoms self.now.atoms.now ≡ atom (Y.state self.now.layout.now) →
-            result ≡ holds (Y.state self.now.layout.now)
+        ensures satisfies { result ≡ holds (Y.state self.now.layout.now)
             (is_linked (told self.now.news.now (verdict_of (B.state self.now.before.now) item)))
             query.now item }
         ensures probes { probes.new ≤ probes.old + terms query.now }
     {
-        judge(query, self.atoms, self, item, probes)
+        let next = NextTerms {
+            layout: self.layout,
+        };
+        judge(query, &next, self, item, probes)
     }
 
     /// Whether a directory that the user added to this one provides an item.

@@ -1,14 +1,16 @@
-//! What judging asks of a state, but for terms and links.
-ghost use Rattle.std.specs.Prelude.{◌≡◌, ◌&&◌, ℕ, Bool, IsTrue};
+//! What judging asks of a state, but for links.
+ghost use Rattle.std.specs.Prelude.{◌≡◌, ◌&&◌, ◌+◌, ℕ, Bool, IsTrue};
 ghost use Rattle.std.specs.Option.{option_copied};
 ghost use Rattle.hac_model.specs.Tree.Depends.{depends};
-ghost use Rattle.hac_model.specs.Tree.Links.{is_below, is_item, is_judged, is_permanent};
+ghost use Rattle.hac_model.specs.Tree.Links.{atom, is_below, is_item, is_judged, is_permanent};
 ghost use Rattle.hac_model.specs.Tree.Links.{is_unmarked, lenders, parent_of, query_at};
 
-use hac_model::{Number, Query};
+use hac_model::{Number, Query, Term};
+use hac_outside::Steps;
+use std::sync::ledger::Ledger;
 
-/// Knows a state: its tree, its marks, and what depends on what. While a change is prepared that is
-/// the state behind the change.
+/// Knows a state: its tree, its marks, its terms, and what depends on what. While a change is
+/// prepared that is the state behind the change. Each question for a term counts.
 pub trait Layout {
     ghost use Rattle.hac_model.specs.declared.states.State.{State};
 
@@ -52,4 +54,9 @@ pub trait Layout {
     /// The directories on which a directory depends.
     fn depends(&self, dir: Number) -> &[Number]
         ensures { result.now ≡ depends (state self.now) dir };
+
+    /// Whether an item has a term. That is one probe.
+    fn has<L: Ledger>(&self, term: &Term, item: Number, probes: &mut Steps<L>) -> bool
+        ensures answer { result ≡ atom (state self.now) term.now item }
+        ensures probe { probes.new ≡ probes.old + 1 };
 }

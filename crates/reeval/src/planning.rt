@@ -2,7 +2,6 @@
 ghost use Rattle.std.specs.Prelude.{◌≡◌, ◌≤◌, ◌+◌, ℕ, [], IfOk};
 ghost use Rattle.dep_graph.specs.Searches.{EachOnce};
 ghost use Rattle.hac_model.specs.Tree.Depends.{Among};
-ghost use Rattle.hac_model.specs.Tree.Links.{atom};
 ghost use Rattle.reeval.specs.Judging.{verdict_of};
 ghost use Rattle.reeval.specs.Probes.{terms_planned};
 ghost use Rattle.reeval.specs.Settled.{IsPlanned};
@@ -14,7 +13,6 @@ use crate::settling::{Stop, settle_all};
 use crate::verdicts::Change;
 use hac_model::{Memory, Number};
 use hac_outside::Steps;
-use query_eval::Atoms;
 use std::alloc::Global;
 use std::sync::ledger::Ledger;
 
@@ -32,10 +30,9 @@ pub struct Task {
 }
 
 /// The new verdicts on all items.
-pub fn plan<Y: Layout, A: Atoms, B: Before, L: Ledger>(
+pub fn plan<Y: Layout, B: Before, L: Ledger>(
     alloc: Global,
     layout: &Y,
-    atoms: &A,
     before: &B,
     task: &Task,
     probes: &mut Steps<L>,
@@ -44,25 +41,21 @@ pub fn plan<Y: Layout, A: Atoms, B: Before, L: Ledger>(
     requires others { EachOnce task.now.others.items }
     requires apart { (item : ℕ) → Among task.now.touched.items item
         → Among task.now.others.items item → ⊥ }
-    ensures news { A.atoms atoms.now ≡ atom (Y.state layout.now)
-        → IsPlanned (B.state before.now) (Y.state layout.now) task.now
+    ensures news { IsPlanned (B.state before.now) (Y.state layout.now) task.now
         → IfOk result (λ delta. (item dir : ℕ)
         → told (news_on item delta.items) (verdict_of (B.state before.now) item) dir
         ≡ verdict_of (Y.state layout.now) item dir) }
-    ensures probes { A.atoms atoms.now ≡ atom (Y.state layout.now)
-        → IsPlanned (B.state before.now) (Y.state layout.now) task.now → probes.new ≤ probes.old
+    ensures probes { IsPlanned (B.state before.now) (Y.state layout.now) task.now → probes.new ≤ probes.old
         + terms_planned (B.state before.now) (Y.state layout.now) task.now }
 {
     let everywhere = task.everywhere.as_slice();
     let touched = task.touched.as_slice();
     let mut delta = Vec::new(alloc);
     settle_all(
-        alloc, layout, atoms, before, everywhere, touched, &mut delta, probes,
+        alloc, layout, before, everywhere, touched, &mut delta, probes,
     )?;
     let along = task.along.as_slice();
     let others = task.others.as_slice();
-    settle_all(
-        alloc, layout, atoms, before, along, others, &mut delta, probes,
-    )?;
+    settle_all(alloc, layout, before, along, others, &mut delta, probes)?;
     Ok(delta)
 }

@@ -6,7 +6,7 @@ ghost use Rattle.std.proofs.Math.Bool.{beq};
 ghost use Rattle.dep_graph.specs.Searches.{EachOnce};
 ghost use Rattle.hac_model.specs.Tree.Costs.{terms_at};
 ghost use Rattle.hac_model.specs.Tree.Depends.{Among, depends};
-ghost use Rattle.hac_model.specs.Tree.Links.{atom, column, has, links, provide};
+ghost use Rattle.hac_model.specs.Tree.Links.{column, has, links, provide};
 ghost use Rattle.reeval.specs.Judging.{is_linked, judgement, verdict_of};
 ghost use Rattle.reeval.specs.Probes.{is_moved, terms_along, terms_asked, terms_settled};
 ghost use Rattle.reeval.specs.Routes.{Covers};
@@ -19,7 +19,6 @@ use crate::layout::Layout;
 use crate::verdicts::Change;
 use hac_model::{Member, Memory, Number};
 use hac_outside::Steps;
-use query_eval::Atoms;
 use std::alloc::Global;
 use std::sync::ledger::Ledger;
 
@@ -41,24 +40,21 @@ pub struct Stop {
 /// The verdicts on an item that are new in the next state. The stops come in an order in which each
 /// is behind those on which it depends; wherever judging may change, it stops. Each query is asked
 /// once at most; where the item doesn't move, only those by which judging begins.
-pub fn settle<Y: Layout, A: Atoms, B: Before, L: Ledger>(
+pub fn settle<Y: Layout, B: Before, L: Ledger>(
     alloc: Global,
     layout: &Y,
-    atoms: &A,
     before: &B,
     stops: &[Stop],
     item: Number,
     probes: &mut Steps<L>,
 ) -> Result<Vec<Change>, Memory>
     ensures own { IfOk result (λ news. list_all (is_on item) news.items ≡ true) }
-    ensures news { A.atoms atoms.now ≡ atom (Y.state layout.now)
-        → Covers (B.state before.now) (Y.state layout.now) stops.now item
+    ensures news { Covers (B.state before.now) (Y.state layout.now) stops.now item
         → IfOk result (λ news. (dir : ℕ) →
         told news.items (verdict_of (B.state before.now) item) dir
         ≡ verdict_of (Y.state layout.now) item dir) }
     ensures most { probes.new ≤ probes.old + terms_along (Y.state layout.now) stops.now }
-    ensures few { A.atoms atoms.now ≡ atom (Y.state layout.now)
-        → Covers (B.state before.now) (Y.state layout.now) stops.now item
+    ensures few { Covers (B.state before.now) (Y.state layout.now) stops.now item
         → is_moved (B.state before.now) (Y.state layout.now) stops.now item ≡ false
         → probes.new ≤ probes.old + terms_asked (Y.state layout.now) stops.now }
 {
@@ -68,12 +64,9 @@ pub fn settle<Y: Layout, A: Atoms, B: Before, L: Ledger>(
     for stop in stops {
         if stop.begins || leans_on(layout, stop, moved.as_slice()) {
             let asks = asks(layout, stop, moved.as_slice());
-            judge_anew(
-                layout, atoms, before, stop.dir, item, asks, &mut news, probes,
-            )?;
+            judge_anew(layout, before, stop.dir, item, asks, &mut news, probes)?;
             note_move(
                 layout,
-                atoms,
                 before,
                 news.as_slice(),
                 stop.dir,
@@ -88,10 +81,9 @@ pub fn settle<Y: Layout, A: Atoms, B: Before, L: Ledger>(
 
 /// Settles several items, each by itself and each once: adds what is new of them to the changes. No
 /// links of an item depend on those of another.
-pub fn settle_all<Y: Layout, A: Atoms, B: Before, L: Ledger>(
+pub fn settle_all<Y: Layout, B: Before, L: Ledger>(
     alloc: Global,
     layout: &Y,
-    atoms: &A,
     before: &B,
     stops: &[Stop],
     items: &[Number],
@@ -99,18 +91,17 @@ pub fn settle_all<Y: Layout, A: Atoms, B: Before, L: Ledger>(
     probes: &mut Steps<L>,
 ) -> Result<(), Memory>
     requires { EachOnce items.now }
-    ensures settled { OnOk result (A.atoms atoms.now ≡ atom (Y.state layout.now)
-        → SettlesAll (B.state before.now) (Y.state layout.now) stops.now items.now
+    ensures settled { OnOk result (SettlesAll (B.state before.now) (Y.state layout.now) stops.now items.now
         delta.old.items delta.new.items) }
     ensures most { probes.new ≤ probes.old
         + length items.now * terms_along (Y.state layout.now) stops.now }
-    ensures few { A.atoms atoms.now ≡ atom (Y.state layout.now) → ((item : ℕ)
+    ensures few { ((item : ℕ)
         → Among items.now item → Covers (B.state before.now) (Y.state layout.now) stops.now item)
         → probes.new ≤ probes.old
         + terms_settled (B.state before.now) (Y.state layout.now) stops.now items.now }
 {
     for item in items {
-        let news = settle(alloc, layout, atoms, before, stops, *item, probes)?;
+        let news = settle(alloc, layout, before, stops, *item, probes)?;
         delta.extend_from_slice(news.as_slice())?;
     }
     Ok(())
@@ -150,9 +141,8 @@ fn depends_on<Y: Layout>(layout: &Y, dir: Number, dirs: &[Number]) -> bool
 
 /// Judges an item in a directory, and adds what it says to the news if that is new. Where its query
 /// is not asked, what it finds is known.
-fn judge_anew<Y: Layout, A: Atoms, B: Before, L: Ledger>(
+fn judge_anew<Y: Layout, B: Before, L: Ledger>(
     layout: &Y,
-    atoms: &A,
     before: &B,
     dir: Number,
     item: Number,
@@ -162,8 +152,7 @@ fn judge_anew<Y: Layout, A: Atoms, B: Before, L: Ledger>(
 ) -> Result<(), Memory>
     ensures own { OnOk result (list_all (is_on item) news.old.items ≡ true
         → list_all (is_on item) news.new.items ≡ true) }
-    ensures news { OnOk result (A.atoms atoms.now ≡ atom (Y.state layout.now)
-        → (asks ≡ false → (told news.old.items (verdict_of (B.state before.now) item) dir).found
+    ensures news { OnOk result ((asks ≡ false → (told news.old.items (verdict_of (B.state before.now) item) dir).found
         ≡ (judgement (Y.state layout.now)
         (is_linked (told news.old.items (verdict_of (B.state before.now) item))) item dir).found)
         → (d : ℕ) → told news.new.items (verdict_of (B.state before.now) item) d
@@ -175,7 +164,6 @@ fn judge_anew<Y: Layout, A: Atoms, B: Before, L: Ledger>(
 {
     let sight = Sight {
         layout,
-        atoms,
         before,
         news: news.as_slice(),
     };
@@ -188,9 +176,8 @@ fn judge_anew<Y: Layout, A: Atoms, B: Before, L: Ledger>(
 
 /// Adds a directory to those that moved, if it provides the item now and didn't before, or the
 /// other way round. Where no stop leans on another nothing is added, and nothing looked up.
-fn note_move<Y: Layout, A: Atoms, B: Before>(
+fn note_move<Y: Layout, B: Before>(
     layout: &Y,
-    atoms: &A,
     before: &B,
     news: &[Change],
     dir: Number,
@@ -206,7 +193,6 @@ fn note_move<Y: Layout, A: Atoms, B: Before>(
 {
     let sight = Sight {
         layout,
-        atoms,
         before,
         news,
     };

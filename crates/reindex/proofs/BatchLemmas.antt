@@ -106,7 +106,7 @@ settled-more s t stops files file old new apart covers more h = record {
     other item before (inl same) = apart (subst (λ (n : ℕ). Among files n) (sym same) before)
     other item before (inr never) = never
 
-pub settled-if : {X E Q : Type 0} (result : Result X E) (s t : State) (stops : List Stop) (file : ℕ) (old new : List Change) → Q → Covers s t stops file → OnOk result (Q → SettlesAll s t stops (file ∷ []) old new) →
+pub settled-if : {X E : Type 0} (result : Result X E) (s t : State) (stops : List Stop) (file : ℕ) (old new : List Change) → Covers s t stops file → OnOk result (SettlesAll s t stops (file ∷ []) old new) →
     OnOk result ((files : List ℕ) → ¬ Among files file → AreSettled s t files old → AreSettled s t (files ++ file ∷ []) new)
-settled-if (Ok x) s t stops file old new given covers more = λ files apart h. settled-more s t stops files file old new apart covers (more given) h
-settled-if (Err e) s t stops file old new given covers more = tt
+settled-if (Ok x) s t stops file old new covers more = λ files apart h. settled-more s t stops files file old new apart covers more h
+settled-if (Err e) s t stops file old new covers more = tt

@@ -139,7 +139,7 @@ module _ (s : State) (last file : ℕ) (text : List ℕ) (shows : shown_of (inde
 -- on that way it may be judged at each directory, too
 covered-anyway : (s : State) (last file : ℕ) (way : Way) → IsWayOf s way → IsValid s → IsValid (indexed_through last s) → Covers s (indexed_through last s) way.stops.items file
 covered-anyway s last file way w before after =
-    subst (λ (all : List Stop). Covers s (indexed_through last s) all file) (sym w.stops)
+    subst (λ (all : List Stop). Covers s (indexed_through last s) all file) (sym w.over.stops)
     (covers-everywhere s (indexed_through last s) (leans s) w.order file (links-judged s before file) after (subst (λ (edges : ℕ → List ℕ). IsOrdered edges w.order) (λ i dir. sym (depends-indexed last s dir) i) w.ordered)
     (λ dir some. w.all dir (λ none. some (depends-indexed last s dir ∙ none))) (leans-well s (indexed_through last s) way w (depends-indexed last s)) (λ dir plain. sym (semantic-indexed last s dir) ∙ plain))
 

@@ -149,7 +149,7 @@ module _ (s : State) where
     -- an item that is judged at each directory
     pub covers-anywhere : IsValid s → (way : Way) → IsWayOf s way → (item : ℕ) → Covers u s way.stops.items item
     covers-anywhere valid way w item =
-        subst (λ (stops : List Stop). Covers u s stops item) (sym w.stops)
+        subst (λ (stops : List Stop). Covers u s stops item) (sym w.over.stops)
         (covers-everywhere u s (leans s) w.order item (none-judged item) valid w.ordered w.all (leans-well s s way w (λ dir. refl)) (λ dir plain. semantic-left other_body leaves s dir ∙ plain))
 
     -- a file that shows a text
@@ -186,5 +186,5 @@ module _ (s : State) where
 -- an item that is judged at each directory, where nothing was known of any
 pub covers-blank : (s : State) → IsValid s → (way : Way) → IsWayOf s way → (item : ℕ) → Covers empty s way.stops.items item
 covers-blank s valid way w item =
-    subst (λ (stops : List Stop). Covers empty s stops item) (sym w.stops)
+    subst (λ (stops : List Stop). Covers empty s stops item) (sym w.over.stops)
     (covers-everywhere empty s (leans s) w.order item (empty-judged item) valid w.ordered w.all (leans-well s s way w (λ dir. refl)) (λ dir plain. refl))

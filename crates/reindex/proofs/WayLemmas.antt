@@ -315,15 +315,16 @@ way-over t order way over ordered all only = record {
   ordered = ordered;
   all = all;
   only = only;
-  stops = over.stops;
-  index = over.index;
-  lends = λ not_any dir. none-lent not_any dir (is_semantic t dir) refl;
-  leaning = over.leaning;
+  over = over;
 }
+
+-- where the way says that no directory was added to any of its own, none was added to any at all
+pub lends-none : (s : State) (way : Way) → IsWayOf s way → way.lends ≡ false → (dir : ℕ) → lenders s dir ≡ []
+lends-none s way w not_any dir = at (is_semantic s dir) refl
   where
-    none-lent : way.lends ≡ false → (dir : ℕ) (b : Bool) → is_semantic t dir ≡ b → lenders t dir ≡ []
-    none-lent not_any dir true is = no-numbers (lenders t dir) (any-none (λ (d : ℕ). not (length (lenders t d) == 0)) order (sym over.lends ∙ not_any) dir (all dir (semantic-depends t dir is)))
-    none-lent not_any dir false out = plain-lends t dir (none_of (query_at t dir) out)
+    at : (b : Bool) → is_semantic s dir ≡ b → lenders s dir ≡ []
+    at true is = no-numbers (lenders s dir) (any-none (λ (d : ℕ). not (length (lenders s d) == 0)) w.order (sym w.over.lends ∙ not_any) dir (w.all dir (semantic-depends s dir is)))
+    at false out = plain-lends s dir (none_of (query_at s dir) out)
 
 pub way-if : (result : Result Way Memory) (s t : State) (order : List ℕ) → t ≡ s → IsOrdered (depends s) order → ((dir : ℕ) → depends s dir ≢ [] → Among order dir) → ((dir : ℕ) → Among order dir → depends s dir ≢ []) →
     IfOk result (IsWayOver t order) → IfOk result (IsWayOf s)
@@ -340,12 +341,12 @@ leans-well s t way w same dir out e edge inside =
 
 -- its stops, where judging begins elsewhere
 pub begun-way : (s : State) (way : Way) (w : IsWayOf s way) (begins : ℕ → Bool) → begun_at begins way.stops.items ≡ stops_at begins (leans s) w.order
-begun-way s way w begins = ap (begun_at begins) w.stops ∙ begun-stops begins (λ dir. true) (leans s) w.order
+begun-way s way w begins = ap (begun_at begins) w.over.stops ∙ begun-stops begins (λ dir. true) (leans s) w.order
 
 -- and its directories
 pub dirs-way : (s : State) (way : Way) (w : IsWayOf s way) → dirs_of way.stops.items ≡ w.order
-dirs-way s way w = ap dirs_of w.stops ∙ dirs-at (λ dir. true) (leans s) w.order
+dirs-way s way w = ap dirs_of w.over.stops ∙ dirs-at (λ dir. true) (leans s) w.order
 
 -- its queries are those of the directories at its stops
 pub index-way : (s : State) (way : Way) → IsWayOf s way → IsIndexOf (map (query_at s) (dirs_of way.stops.items)) way.index
-index-way s way w = subst (λ (dirs : List ℕ). IsIndexOf (map (query_at s) dirs) way.index) (sym (dirs-way s way w)) w.index
+index-way s way w = subst (λ (dirs : List ℕ). IsIndexOf (map (query_at s) dirs) way.index) (sym (dirs-way s way w)) w.over.index

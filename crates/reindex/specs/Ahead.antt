@@ -11,10 +11,10 @@ use Rattle.reindex.specs.declared.ahead.StepsAhead.{StepsAhead}
 
 -- the state before the steps, and the one behind them
 abbrev pub state_before : StepsAhead → State
-state_before ahead = ahead.kept.now.state
+state_before ahead = ahead.indexing.kept.now.state
 
 abbrev pub state_behind : StepsAhead → State
-state_behind ahead = indexed_through ahead.last ahead.kept.now.state
+state_behind ahead = indexed_through ahead.indexing.last ahead.indexing.kept.now.state
 
 -- the links and the way are those of the state before the steps, and the state behind them is valid
 pub record AreAhead (ahead : StepsAhead) : Type 0 where

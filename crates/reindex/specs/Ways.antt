@@ -62,14 +62,10 @@ pub record IsWayOver (s : State) (order : List ℕ) (way : Way) : Type 0 where
   pub lends : way.lends ≡ list_any (λ dir. not (length (lenders s dir) == 0)) order
   pub leaning : way.leans ≡ any_leans way.stops.items
 
--- the way stops at all semantic directories, each behind those on which it depends. It has their queries, and says whether
--- directories may have been added to some, and whether one may depend on another
+-- the way stops at all semantic directories, each behind those on which it depends
 pub record IsWayOf (s : State) (way : Way) : Type 0 where
   pub order : List ℕ
   pub ordered : IsOrdered (depends s) order
   pub all : (dir : ℕ) → depends s dir ≢ [] → Among order dir
   pub only : (dir : ℕ) → Among order dir → depends s dir ≢ []
-  pub stops : way.stops.items ≡ stops_everywhere s order
-  pub index : IsIndexOf (map (query_at s) order) way.index
-  pub lends : way.lends ≡ false → (dir : ℕ) → lenders s dir ≡ []
-  pub leaning : way.leans ≡ any_leans way.stops.items
+  pub over : IsWayOver s order way

@@ -1,19 +1,16 @@
 //! Steps that are to be taken, with all that is known before them.
 
+use crate::indexing::Indexing;
 use crate::ways::Way;
-use hac_model::Number;
-use kept_state::KeptState;
 use link_kinds::Links;
 
-/// A state, what is kept beside it, and up to which number its files are to be indexed.
+/// A state whose files are to be indexed up to a number, and what is kept beside it.
 #[derive(Clone, Copy)]
 pub(crate) struct StepsAhead<'a> {
-    /// The state.
-    pub(crate) kept: &'a KeptState,
-    /// Its links.
+    /// The state, seen as the one behind the steps.
+    pub(crate) indexing: Indexing<'a>,
+    /// The links of the state.
     pub(crate) found: &'a Links,
     /// The way to all of its semantic directories.
     pub(crate) way: &'a Way,
-    /// The number of the last file.
-    pub(crate) last: Number,
 }

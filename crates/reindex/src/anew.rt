@@ -1,7 +1,7 @@
 //! All links of a state, found from nothing.
 ghost use Rattle.std.specs.Prelude.{◌≡◌, ◌≤◌, ◌+◌, IfOk, OnOk, Some, if◌then◌else◌};
 ghost use Rattle.hac_model.specs.Tree.Costs.{opening, weight};
-ghost use Rattle.hac_model.specs.Tree.Links.{atom, has, is_item, shown_of, transient_at};
+ghost use Rattle.hac_model.specs.Tree.Links.{has, is_item, shown_of, transient_at};
 ghost use Rattle.reeval.specs.Probes.{terms_along};
 ghost use Rattle.reeval.specs.Routes.{Covers};
 ghost use Rattle.reeval.specs.Settled.{AreLinksOf};
@@ -11,14 +11,13 @@ ghost use Rattle.reindex.specs.Ways.{IsWayOf};
 use crate::fitted::Fitted;
 use crate::indexing::{Indexing, shown_of};
 use crate::lookups::{is_document, is_item, know_lists};
-use crate::texts::{fit_of, stops_fitting};
+use crate::texts::stops_fitting;
 use crate::unjudged::Unjudged;
 use crate::ways::{FEW_STOPS, Way};
 use hac_model::{Memory, Number};
 use hac_outside::Steps;
 use kept_state::KeptState;
 use link_kinds::Links;
-use query_eval::Atoms;
 use reeval::{Blank, Change, Layout, Stop, Verdict, apply, latest, reserve, settle};
 use std::alloc::Global;
 use std::sync::ledger::Ledger;
@@ -129,7 +128,7 @@ fn news_everywhere<L: Ledger>(
         last: Number::ROOT,
     };
     let stops = way.stops.as_slice();
-    settle(alloc, &present, &present, &Blank, stops, item, probes)
+    settle(alloc, &present, &Blank, stops, item, probes)
 }
 
 /// The same, where no directory was added to another: a file is judged where its words may tell,
@@ -154,7 +153,7 @@ fn news_by_words<L: Ledger>(
             last: Number::ROOT,
         };
         let stops = way.stops.as_slice();
-        return news_along(alloc, kept, &present, &present, stops, item, probes);
+        return news_along(alloc, kept, &present, stops, item, probes);
     }
     match shown_of(kept, item) {
         Some(text) => news_of_text(alloc, kept, way, item, text, probes),
@@ -178,7 +177,7 @@ fn news_of_text<L: Ledger>(
     ensures probes { probes.new ≤ probes.old + weight kept.now.state }
 {
     kept.know_valid();
-    let fit = fit_of(alloc, &way.index, text)?;
+    let fit = way.index.fitting(text)?;
     let stops = stops_fitting(alloc, way, &fit)?;
     let present = Indexing {
         kept,
@@ -189,34 +188,24 @@ fn news_of_text<L: Ledger>(
         fit: &fit,
         item,
     };
-    news_along(
-        alloc,
-        kept,
-        &fitted,
-        &fitted,
-        stops.as_slice(),
-        item,
-        probes,
-    )
+    news_along(alloc, kept, &fitted, stops.as_slice(), item, probes)
 }
 
 /// The same, of an item that is judged again wherever a stop says so.
-fn news_along<Y: Layout, A: Atoms, L: Ledger>(
+fn news_along<Y: Layout, L: Ledger>(
     alloc: Global,
     kept: &KeptState,
     layout: &Y,
-    atoms: &A,
     stops: &[Stop],
     item: Number,
     probes: &mut Steps<L>,
 ) -> Result<Vec<Change>, Memory>
     requires layout { Y.state layout.now ≡ kept.now.state }
-    requires atoms { A.atoms atoms.now ≡ atom kept.now.state }
     requires unlent { LendsNothing kept.now.state }
     requires way { Covers (unjudged_state kept.now.state) kept.now.state stops.now item }
     ensures news { IfOk result (λ news. AreAllNews kept.now.state item news.items) }
     ensures probes { probes.new ≤ probes.old + terms_along kept.now.state stops.now }
 {
     let unjudged = Unjudged { kept };
-    settle(alloc, layout, atoms, &unjudged, stops, item, probes)
+    settle(alloc, layout, &unjudged, stops, item, probes)
 }

@@ -5,7 +5,6 @@ ghost use Rattle.hac_model.specs.Tree.Links.{atom};
 use crate::indexing::Indexing;
 use hac_model::{Number, Query, Term};
 use hac_outside::Steps;
-use query_eval::Atoms;
 use query_index::Fit;
 use reeval::Layout;
 use std::marker::Model;
@@ -86,10 +85,6 @@ impl<'a> Layout for Fitted<'a> {
     fn depends(&self, dir: Number) -> &[Number] {
         self.indexing.depends(dir)
     }
-}
-
-impl<'a> Atoms for Fitted<'a> {
-    ghost atoms = { λ fitted. atom fitted };
 
     fn has<L: Ledger>(&self, term: &Term, item: Number, probes: &mut Steps<L>) -> bool {
         match self.answer(term, item) {

@@ -13,12 +13,11 @@ use hac_model::{Number, Query, Term};
 use hac_outside::Steps;
 use hac_words::has_term;
 use kept_state::KeptState;
-use query_eval::Atoms;
 use reeval::Layout;
 use std::sync::ledger::Ledger;
 
 /// A state, seen as that in which each file whose number isn't above `last` shows its text.
-#[derive(Drop)]
+#[derive(Clone, Copy)]
 pub(crate) struct Indexing<'a> {
     pub(crate) kept: &'a KeptState,
     pub(crate) last: Number,
@@ -93,10 +92,6 @@ impl<'a> Layout for Indexing<'a> {
     fn depends(&self, dir: Number) -> &[Number] {
         depends(self.kept, dir)
     }
-}
-
-impl<'a> Atoms for Indexing<'a> {
-    ghost atoms = { λ indexing. atom (indexed_through indexing.last indexing.kept.now.state) };
 
     fn has<L: Ledger>(&self, term: &Term, item: Number, probes: &mut Steps<L>) -> bool {
         probes.tick();

@@ -4,7 +4,7 @@ ghost use Rattle.std.specs.List.{list_all};
 ghost use Rattle.dep_graph.specs.Searches.{EachOnce};
 ghost use Rattle.hac_model.specs.Tree.Costs.{weight};
 ghost use Rattle.hac_model.specs.Tree.Depends.{Among};
-ghost use Rattle.hac_model.specs.Tree.Links.{atom, is_item};
+ghost use Rattle.hac_model.specs.Tree.Links.{is_item};
 ghost use Rattle.hac_model.specs.Tree.Valid.{IsValid};
 ghost use Rattle.hac_model.specs.declared.states.State.{State};
 ghost use Rattle.reeval.specs.Judging.{no_verdict, verdict_of};
@@ -20,17 +20,15 @@ use crate::ways::Way;
 use hac_model::{Memory, Number};
 use hac_outside::Steps;
 use kept_state::KeptState;
-use query_eval::Atoms;
 use reeval::{Before, Change, Layout, Stop, Verdict, settle};
 use std::alloc::Global;
 use std::sync::ledger::Ledger;
 
 /// What is new of items that move and stay what they are. Each is judged again where its place may
 /// tell.
-pub fn delta_of_moved<Y: Layout, A: Atoms, L: Ledger>(
+pub fn delta_of_moved<Y: Layout, L: Ledger>(
     alloc: Global,
     layout: &Y,
-    atoms: &A,
     past: &Past<'_>,
     way: &Way,
     items: &[Number],
@@ -41,14 +39,14 @@ pub fn delta_of_moved<Y: Layout, A: Atoms, L: Ledger>(
     requires once { EachOnce items.now }
     requires after { IsValid (Y.state layout.now) }
     requires way { IsWayOf (Y.state layout.now) way.now }
-    ensures settled { A.atoms atoms.now ≡ atom (Y.state layout.now) → IfOk result (λ delta.
+    ensures settled { IfOk result (λ delta.
         AreSettled past.now (Y.state layout.now) items.now delta.items) }
     ensures probes { probes.new ≤ probes.old
         + length items.now * weight (Y.state layout.now) }
 {
     let mut delta = Vec::new(alloc);
     for item in items {
-        let news = news_of_moved(alloc, layout, atoms, past, way, *item, probes)?;
+        let news = news_of_moved(alloc, layout, past, way, *item, probes)?;
         delta.extend_from_slice(news.as_slice())?;
     }
     Ok(delta)
@@ -57,10 +55,9 @@ pub fn delta_of_moved<Y: Layout, A: Atoms, L: Ledger>(
 /// What is new of one of them. Judging begins at each directory that depends on one that the item
 /// leaves or comes to. It goes on at what depends on a directory that now provides the item and
 /// didn't, or no longer does.
-fn news_of_moved<Y: Layout, A: Atoms, L: Ledger>(
+fn news_of_moved<Y: Layout, L: Ledger>(
     alloc: Global,
     layout: &Y,
-    atoms: &A,
     past: &Past<'_>,
     way: &Way,
     item: Number,
@@ -70,14 +67,13 @@ fn news_of_moved<Y: Layout, A: Atoms, L: Ledger>(
     requires after { IsValid (Y.state layout.now) }
     requires way { IsWayOf (Y.state layout.now) way.now }
     ensures own { IfOk result (λ news. list_all (is_on item) news.items ≡ true) }
-    ensures news { A.atoms atoms.now ≡ atom (Y.state layout.now)
-        → IfOk result (λ news. (dir : ℕ) → told news.items (verdict_of past.now item) dir
+    ensures news { IfOk result (λ news. (dir : ℕ) → told news.items (verdict_of past.now item) dir
         ≡ verdict_of (Y.state layout.now) item dir) }
     ensures probes { probes.new ≤ probes.old + weight (Y.state layout.now) }
 {
     past.kept.know_valid();
     let stops = stops_of_moved(alloc, layout, past.kept, way.stops.as_slice(), item)?;
-    settle(alloc, layout, atoms, past, stops.as_slice(), item, probes)
+    settle(alloc, layout, past, stops.as_slice(), item, probes)
 }
 
 /// The stops at which the item may be judged. Judging begins wherever its place may tell.

@@ -21,13 +21,13 @@ use crate::ahead::StepsAhead;
 use crate::fitted::Fitted;
 use crate::indexing::{Indexing, shown_of};
 use crate::past::Past;
-use crate::texts::{fit_of, stops_changed, stops_fitting};
+use crate::texts::{stops_changed, stops_fitting};
 use crate::ways::{FEW_STOPS, Way, stops_of_way};
 use hac_model::{Memory, Number};
 use hac_outside::Steps;
 use kept_state::KeptState;
 use link_kinds::Links;
-use reeval::{Change, Stop, settle_all};
+use reeval::{Change, Layout, Stop, settle_all};
 use std::alloc::Global;
 use std::sync::ledger::Ledger;
 
@@ -51,10 +51,12 @@ pub fn delta_of_steps<L: Ledger>(
     kept.know_valid();
     let batch = first_dirty(alloc, kept, count)?;
     let ahead = StepsAhead {
-        kept,
+        indexing: Indexing {
+            kept,
+            last: batch.last,
+        },
         found,
         way,
-        last: batch.last,
     };
     let files = batch.files.as_slice();
     delta_of_files(alloc, &ahead, files, probes)
@@ -93,11 +95,7 @@ fn settle_file<L: Ledger>(
     ensures settled { OnOk result (AddsNewsOf ahead.now file delta.old.items delta.new.items) }
     ensures probes { probes.new ≤ probes.old + weight (state_before ahead.now) }
 {
-    let indexing = Indexing {
-        kept: ahead.kept,
-        last: ahead.last,
-    };
-    match first_text(&indexing, ahead.way, file) {
+    match first_text(&ahead.indexing, ahead.way, file) {
         Some(text) => settle_first(alloc, ahead, file, text, delta, probes),
         None => settle_again(alloc, ahead, file, delta, probes),
     }
@@ -119,32 +117,15 @@ fn settle_first<L: Ledger>(
     ensures settled { OnOk result (AddsNewsOf ahead.now file delta.old.items delta.new.items) }
     ensures probes { probes.new ≤ probes.old + weight (state_before ahead.now) }
 {
-    let StepsAhead {
-        kept,
-        found,
-        way,
-        last,
-    } = *ahead;
-    kept.know_valid();
-    let fit = fit_of(alloc, &way.index, text)?;
-    let stops = stops_fitting(alloc, way, &fit)?;
-    let stops = stops.as_slice();
+    ahead.indexing.kept.know_valid();
+    let fit = ahead.way.index.fitting(text)?;
+    let stops = stops_fitting(alloc, ahead.way, &fit)?;
     let fitted = Fitted {
-        indexing: &Indexing { kept, last },
+        indexing: &ahead.indexing,
         fit: &fit,
         item: file,
     };
-    let past = Past { kept, found };
-    settle_all(
-        alloc,
-        &fitted,
-        &fitted,
-        &past,
-        stops,
-        &[file],
-        delta,
-        probes,
-    )
+    settle_at(alloc, ahead, &fitted, stops.as_slice(), file, delta, probes)
 }
 
 /// The same of a file that showed a text, or of one that is judged in each directory.
@@ -159,27 +140,41 @@ fn settle_again<L: Ledger>(
     ensures settled { OnOk result (AddsNewsOf ahead.now file delta.old.items delta.new.items) }
     ensures probes { probes.new ≤ probes.old + weight (state_before ahead.now) }
 {
-    let StepsAhead {
-        kept,
-        found,
-        way,
-        last,
-    } = *ahead;
-    kept.know_valid();
-    let indexing = Indexing { kept, last };
-    let past = Past { kept, found };
-    let stops = stops_of(alloc, &indexing, way, file)?;
-    let stops = stops.as_slice();
-    settle_all(
+    ahead.indexing.kept.know_valid();
+    let indexing = &ahead.indexing;
+    let stops = stops_of(alloc, indexing, ahead.way, file)?;
+    settle_at(
         alloc,
-        &indexing,
-        &indexing,
-        &past,
-        stops,
-        &[file],
+        ahead,
+        indexing,
+        stops.as_slice(),
+        file,
         delta,
         probes,
     )
+}
+
+/// Adds what is new of one file, which is judged at these stops.
+fn settle_at<Y: Layout, L: Ledger>(
+    alloc: Global,
+    ahead: &StepsAhead<'_>,
+    layout: &Y,
+    stops: &[Stop],
+    file: Number,
+    delta: &mut Vec<Change>,
+    probes: &mut Steps<L>,
+) -> Result<(), Memory>
+    requires ahead { AreAhead ahead.now }
+    requires layout { Y.state layout.now ≡ state_behind ahead.now }
+    requires covers { Covers (state_before ahead.now) (state_behind ahead.now) stops.now file }
+    ensures settled { OnOk result (AddsNewsOf ahead.now file delta.old.items delta.new.items) }
+    ensures probes { probes.new ≤ probes.old + terms_along (state_behind ahead.now) stops.now }
+{
+    let past = Past {
+        kept: ahead.indexing.kept,
+        found: ahead.found,
+    };
+    settle_all(alloc, layout, &past, stops, &[file], delta, probes)
 }
 
 /// The text of a file that is indexed for the first time, if its words are to be listed.

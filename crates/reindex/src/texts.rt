@@ -11,7 +11,7 @@ ghost use Rattle.reindex.specs.Ways.{IsWayOf, begun_at, needed};
 
 use crate::ways::{Way, stops_begun};
 use hac_model::Memory;
-use hac_words::{runs_of, words_of};
+use hac_words::words_of;
 use query_index::{Fit, QueryIndex};
 use reeval::Stop;
 use std::alloc::Global;
@@ -59,17 +59,4 @@ fn places_changed(
     let old = words_of(alloc, old)?;
     let new = words_of(alloc, new)?;
     index.asking(old.as_slice(), new.as_slice())
-}
-
-/// What an index says of the words of a text.
-pub(crate) fn fit_of<'a>(
-    alloc: Global,
-    index: &'a QueryIndex,
-    text: &[u8],
-) -> Result<Fit<'a>, Memory>
-    ensures { (queries : List (Option (Formula ℕ))) → IsIndexOf queries index.now →
-        IfOk result (IsFitOf queries (words text.now)) }
-{
-    let lower = text.to_ascii_lowercase(alloc)?;
-    index.fitting(&runs_of(alloc, &lower)?)
 }

@@ -5,6 +5,7 @@ ghost use Rattle.std.specs.List.{list_any};
 ghost use Rattle.hac_model.specs.Tree.Links.{is_semantic, lenders, query_at};
 ghost use Rattle.hac_model.specs.Tree.Links.{has};
 ghost use Rattle.hac_model.specs.Tree.Valid.{RiseFrom};
+ghost use Rattle.hac_model.specs.declared.states.State.{State};
 ghost use Rattle.query_index.specs.Numbers.{AreThose};
 ghost use Rattle.query_index.specs.Seen.{IsIndexOf};
 ghost use Rattle.reindex.specs.Ways.{IsWayOf, IsWayOver, any_leans, begins_there, begun_at};
@@ -25,10 +26,24 @@ pub struct Way {
     pub stops: Vec<Stop>,
     /// Their queries, in the same order.
     pub index: QueryIndex,
-    /// Whether directories may have been added to some of them.
+    /// Whether directories were added to some of them.
     pub lends: bool,
     /// Whether one of them may depend on another.
     pub leans: bool,
+}
+
+impl Way {
+    /// The way to no directory.
+    pub fn new(alloc: Global) -> Way
+        ensures { (s : State) → IsWayOver s [] result }
+    {
+        Way {
+            stops: Vec::new(alloc),
+            index: QueryIndex::new(alloc),
+            lends: false,
+            leans: false,
+        }
+    }
 }
 
 /// Up to this many directories an item is judged in each: that takes less time than it takes to
@@ -156,8 +171,8 @@ pub(crate) fn stops_of_way(alloc: Global, way: &Way) -> Result<Vec<Stop>, Memory
     Ok(Vec::from_slice(alloc, way.stops.as_slice())?)
 }
 
-/// The same stops, where judging begins at those of these places, but for those at which nothing is
-/// judged: it doesn't begin there, and they lean on none.
+/// The stops at which an item may be judged: those of these places, where judging begins, and all
+/// that lean on others.
 pub(crate) fn stops_begun(alloc: Global, way: &Way, places: &[usize]) -> Result<Vec<Stop>, Memory>
     requires leans { way.now.leans ≡ any_leans way.now.stops.items }
     requires rise { RiseFrom 0 places.now }
@@ -172,7 +187,7 @@ pub(crate) fn stops_begun(alloc: Global, way: &Way, places: &[usize]) -> Result<
     }
 }
 
-/// They are those of the places, where none leans on others.
+/// The same where none leans on another.
 fn stops_there(alloc: Global, stops: &[Stop], places: &[usize]) -> Result<Vec<Stop>, Memory>
     ensures { IfOk result (λ begun. begun.items ≡ flat_map (begun_there stops.now) places.now) }
 {
@@ -197,7 +212,7 @@ fn add_begun(stops: &[Stop], place: usize, begun: &mut Vec<Stop>) -> Result<(), 
     Ok(())
 }
 
-/// They are those, and others that lean on some.
+/// The same where some do.
 fn stops_needed(alloc: Global, stops: &[Stop], places: &[usize]) -> Result<Vec<Stop>, Memory>
     requires { RiseFrom 0 places.now }
     ensures { (begins : ℕ → Bool) → AreThose (begins_there begins stops.now) places.now

@@ -5,7 +5,7 @@ use Rattle.std.proofs.Math.Bool.{beq}
 use Rattle.hac_model.specs.Tree.Costs.{terms_at}
 use Rattle.hac_model.specs.Tree.Depends.{Among, depends}
 use Rattle.std.proofs.lemmas.List.{drop_all, drop_more}
-use Rattle.hac_model.specs.Tree.Links.{atom, has, provide}
+use Rattle.hac_model.specs.Tree.Links.{has, provide}
 use Rattle.reeval.specs.Probes.{is_moved, terms_along, terms_asked}
 use Rattle.reeval.specs.Routes.{Covers}
 use Rattle.reeval.specs.Judging.{is_linked, judgement, verdict_of}
@@ -28,7 +28,7 @@ loop-stop-init g c =
     let stops = c.args.stops.now in
     let item = c.args.item in (
       ap (list_all (is_on item)) c.new-news.ensures.items,
-      λ atoms covers. (
+      λ covers. (
         record {
           all = [];
           same = λ _ d. ap (λ (items : List ℕ). has items d) c.new-moved.ensures.items;
@@ -54,8 +54,8 @@ loop-stop-preserved g c =
     let left : drop c.loop-stop.stop-index stops ≡ stop ∷ rest =
     drop_more stops c.loop-stop.stop-index stop c.loop-stop-test.true ∙ ap (λ (stop : Stop). stop ∷ rest) (sym c.stop-item.is) in
     let known : ℕ → Verdict = told c.loop-stop.news.items (verdict_of s item) in
-    let had : g.A.Atoms.atoms c.args.atoms.now ≡ atom t → (covers : Covers s t stops item) → Noted s t item stops covers leans (stop.dir ∷ dirs_of rest) known moved =
-    (λ atoms covers. let noted = (c.loop-stop.invariant.1 atoms covers).0 in record {
+    let had : (covers : Covers s t stops item) → Noted s t item stops covers leans (stop.dir ∷ dirs_of rest) known moved =
+    (λ covers. let noted = (c.loop-stop.invariant.1 covers).0 in record {
       all = noted.all;
       same = noted.same;
       settled = subst (λ (more : List Stop). Settled s t item stops covers (dirs_of more) known noted.all) left noted.settled;
@@ -67,22 +67,22 @@ loop-stop-preserved g c =
     (all-index (λ stop. stop.leans ≡ false → (e : ℕ) → Among (depends t stop.dir) e → ¬ Among (dirs_of stops) e) stops c.loop-stop.stop-index stop covers.route.alone c.loop-stop-test.true)) in
     let along : c.loop-stop.probes + terms_along t (stop ∷ rest) ≤ c.args.probes.now + terms_along t stops =
     subst (λ (more : List Stop). c.loop-stop.probes + terms_along t more ≤ c.args.probes.now + terms_along t stops) left c.loop-stop.invariant.2 in
-    let still : (atoms : g.A.Atoms.atoms c.args.atoms.now ≡ atom t) → (covers : Covers s t stops item) → is_moved s t stops item ≡ false
-    → ((had atoms covers).all ≡ []) × (c.loop-stop.probes + terms_asked t (stop ∷ rest) ≤ c.args.probes.now + terms_asked t stops) =
-    (λ atoms covers even. let both = (c.loop-stop.invariant.1 atoms covers).1 even in
+    let still : (covers : Covers s t stops item) → is_moved s t stops item ≡ false
+    → ((had covers).all ≡ []) × (c.loop-stop.probes + terms_asked t (stop ∷ rest) ≤ c.args.probes.now + terms_asked t stops) =
+    (λ covers even. let both = (c.loop-stop.invariant.1 covers).1 even in
     (both.0, subst (λ (more : List Stop). c.loop-stop.probes + terms_asked t more ≤ c.args.probes.now + terms_asked t stops) left both.1)) in
-    let same : (atoms : g.A.Atoms.atoms c.args.atoms.now ≡ atom t) → (covers : Covers s t stops item) → (stop.leans && list_any (has moved) deps) ≡ (stop.leans && list_any (has (had atoms covers).all) deps) =
-    (λ atoms covers. leans-same leans stop.leans moved (had atoms covers).all deps any (had atoms covers).same) in
+    let same : (covers : Covers s t stops item) → (stop.leans && list_any (has moved) deps) ≡ (stop.leans && list_any (has (had covers).all) deps) =
+    (λ covers. leans-same leans stop.leans moved (had covers).all deps any (had covers).same) in
     elim c.if-stop.branch [
       | then-stop+in_ok-judge_anew+in_ok-note_move w ↦
-          (let asks : (atoms : g.A.Atoms.atoms c.args.atoms.now ≡ atom t) → (covers : Covers s t stops item) → w.asks-asks.result ≡ (not stop.ties || (stop.leans && list_any (has (had atoms covers).all) deps)) =
-          (λ atoms covers. w.asks-asks.ensures ∙ (λ i. not stop.ties || (stop.leans && list_any (has (w.as_slice-then-stop.ensures.value i)) deps)) ∙ ap (λ (b : Bool). not stop.ties || b) (same atoms covers)) in
-          let asked : (atoms : g.A.Atoms.atoms c.args.atoms.now ≡ atom t) → (covers : Covers s t stops item) → w.asks-asks.result ≡ false → (known stop.dir).found ≡ (judgement t (is_linked known) item stop.dir).found =
-          (λ atoms covers out. asked-found s t item stops covers stop.dir (dirs_of rest) known (had atoms covers).all (had atoms covers).settled stop.leans stop.ties (alone covers)
+          (let asks : (covers : Covers s t stops item) → w.asks-asks.result ≡ (not stop.ties || (stop.leans && list_any (has (had covers).all) deps)) =
+          (λ covers. w.asks-asks.ensures ∙ (λ i. not stop.ties || (stop.leans && list_any (has (w.as_slice-then-stop.ensures.value i)) deps)) ∙ ap (λ (b : Bool). not stop.ties || b) (same covers)) in
+          let asked : (covers : Covers s t stops item) → w.asks-asks.result ≡ false → (known stop.dir).found ≡ (judgement t (is_linked known) item stop.dir).found =
+          (λ covers out. asked-found s t item stops covers stop.dir (dirs_of rest) known (had covers).all (had covers).settled stop.leans stop.ties (alone covers)
           (λ ties. any-there (λ other. other.dir == stop.dir && other.ties) stops c.loop-stop.stop-index stop rest left (λ i. eq-eqb stop.dir stop.dir refl i && ties i))
-          (sym (asks atoms covers) ∙ out)) in
-          let newly : g.A.Atoms.atoms c.args.atoms.now ≡ atom t → Covers s t stops item → (d : ℕ) → told c.if-stop.news.items (verdict_of s item) d ≡ (if d == stop.dir then judgement t (is_linked known) item stop.dir else known d) =
-          (λ atoms covers d. (λ i. told (w.news-is i).items (verdict_of s item) d) ∙ w.in_ok-judge_anew.ensures.news atoms (asked atoms covers) d) in
+          (sym (asks covers) ∙ out)) in
+          let newly : Covers s t stops item → (d : ℕ) → told c.if-stop.news.items (verdict_of s item) d ≡ (if d == stop.dir then judgement t (is_linked known) item stop.dir else known d) =
+          (λ covers d. (λ i. told (w.news-is i).items (verdict_of s item) d) ∙ w.in_ok-judge_anew.ensures.news (asked covers) d) in
           let news : w.as_slice-then-stop-2.result.now ≡ c.if-stop.news.items = w.as_slice-then-stop-2.ensures.value ∙ sym (λ i. (w.news-is i).items) in
           let noted : (d : ℕ) → has c.if-stop.moved.items d ≡ (has moved d || (leans && (stop.dir == d && not (beq (provide s (is_linked (verdict_of s item)) stop.dir item) (provide t (is_linked (told c.if-stop.news.items (verdict_of s item))) stop.dir item))))) =
           (λ d. (λ i. has (w.moved-is i).items d) ∙ w.in_ok-note_move.ensures d
@@ -90,18 +90,18 @@ loop-stop-preserved g c =
           let bound : c.if-stop.probes ≤ c.loop-stop.probes + (if w.asks-asks.result then terms_at t stop.dir else 0) =
           subst (λ (n : ℕ). n ≤ c.loop-stop.probes + (if w.asks-asks.result then terms_at t stop.dir else 0)) (sym w.probes-is) w.in_ok-judge_anew.ensures.probes in (
             (λ i. list_all (is_on item) (w.news-is i).items) ∙ w.in_ok-judge_anew.ensures.own c.loop-stop.invariant.0,
-            λ atoms covers. (
-              noted-judged s t item stops covers leans stop.dir (dirs_of rest) known moved (had atoms covers) (told c.if-stop.news.items (verdict_of s item)) c.if-stop.moved.items (newly atoms covers) noted,
+            λ covers. (
+              noted-judged s t item stops covers leans stop.dir (dirs_of rest) known moved (had covers) (told c.if-stop.news.items (verdict_of s item)) c.if-stop.moved.items (newly covers) noted,
               λ even.
-                  let both = still atoms covers even in
+                  let both = still covers even in
                   elim w.then-stop.branch [
                     | then-stop-via-then-stop v ↦ (
-                      none-noted s t item stops covers leans stop.dir (dirs_of rest) known moved (had atoms covers) (told c.if-stop.news.items (verdict_of s item)) c.if-stop.moved.items (newly atoms covers) noted
+                      none-noted s t item stops covers leans stop.dir (dirs_of rest) known moved (had covers) (told c.if-stop.news.items (verdict_of s item)) c.if-stop.moved.items (newly covers) noted
                           (even-there s t stops item c.loop-stop.stop-index stop rest left even v.if-stop.true) both.0,
-                      more-asked t stop deps (had atoms covers).all rest stops c.args.probes.now c.loop-stop.probes c.if-stop.probes w.asks-asks.result v.if-stop.true both.0 (asks atoms covers) both.1 bound,
+                      more-asked t stop deps (had covers).all rest stops c.args.probes.now c.loop-stop.probes c.if-stop.probes w.asks-asks.result v.if-stop.true both.0 (asks covers) both.1 bound,
                     )
                     | then-stop-via-else-stop+then-leans_on v ↦
-                        (let never : true ≡ false = sym v.if-leans_on.true ∙ v.leans_on.ensures ∙ (λ i. stop.leans && list_any (has (v.as_slice.ensures.value i)) deps) ∙ same atoms covers ∙ (λ i. stop.leans && list_any (has (both.0 i)) deps) ∙ leans-never stop.leans deps in absurd cc)
+                        (let never : true ≡ false = sym v.if-leans_on.true ∙ v.leans_on.ensures ∙ (λ i. stop.leans && list_any (has (v.as_slice.ensures.value i)) deps) ∙ same covers ∙ (λ i. stop.leans && list_any (has (both.0 i)) deps) ∙ leans-never stop.leans deps in absurd cc)
                   ],
             ),
             more-along t stop rest stops c.args.probes.now c.loop-stop.probes c.if-stop.probes w.asks-asks.result along bound,
@@ -110,18 +110,18 @@ loop-stop-preserved g c =
       | else-stop+else-leans_on w ↦
           (let asked : c.loop-stop.probes ≡ c.if-stop.probes = sym w.probes-is in (
             (λ i. list_all (is_on item) (w.news-is i).items) ∙ c.loop-stop.invariant.0,
-            λ atoms covers. (
+            λ covers. (
               record {
-                all = (had atoms covers).all;
-                same = λ is d. (λ i. has (w.moved-is i).items d) ∙ (had atoms covers).same is d;
-                settled = subst (λ (items : List Change). Settled s t item stops covers (dirs_of rest) (told items (verdict_of s item)) (had atoms covers).all) (sym (λ i. (w.news-is i).items))
-                    (settled-by s t item stops covers stop.dir (dirs_of rest) known (had atoms covers).all (had atoms covers).settled
+                all = (had covers).all;
+                same = λ is d. (λ i. has (w.moved-is i).items d) ∙ (had covers).same is d;
+                settled = subst (λ (items : List Change). Settled s t item stops covers (dirs_of rest) (told items (verdict_of s item)) (had covers).all) (sym (λ i. (w.news-is i).items))
+                    (settled-by s t item stops covers stop.dir (dirs_of rest) known (had covers).all (had covers).settled
                     (begins-there (depends t) stops c.loop-stop.stop-index stop rest covers.route.ordered left w.if-stop.false)
-                    (leans-none s t item stops covers stop.dir (dirs_of rest) known (had atoms covers).all (had atoms covers).settled stop.leans (alone covers)
-                    (sym (same atoms covers) ∙ sym (λ i. stop.leans && list_any (has (w.as_slice.ensures.value i)) deps) ∙ sym w.leans_on.ensures ∙ w.if-leans_on.false)));
+                    (leans-none s t item stops covers stop.dir (dirs_of rest) known (had covers).all (had covers).settled stop.leans (alone covers)
+                    (sym (same covers) ∙ sym (λ i. stop.leans && list_any (has (w.as_slice.ensures.value i)) deps) ∙ sym w.leans_on.ensures ∙ w.if-leans_on.false)));
               },
               λ even.
-                  let both = still atoms covers even in (
+                  let both = still covers even in (
                     both.0,
                     subst (λ (n : ℕ). n + terms_asked t rest ≤ c.args.probes.now + terms_asked t stops) asked (same-asked t stop rest stops c.args.probes.now c.loop-stop.probes both.1),
                   ),
@@ -132,22 +132,22 @@ loop-stop-preserved g c =
     ]
 
 pub returns-clause-news : goal.returns-clause-news
-returns-clause-news g c = λ atoms covers.
+returns-clause-news g c = λ covers.
     let s = g.B.Before.state c.args.before.now in
     let t = g.Y.Layout.state c.args.layout.now in
-    let noted = (c.loop-stop.invariant.1 atoms covers).0 in
+    let noted = (c.loop-stop.invariant.1 covers).0 in
     let none : drop c.loop-stop.stop-index c.args.stops.now ≡ [] = drop_all c.loop-stop.stop-index c.args.stops.now c.loop-stop-test.false in
     settled-all s t c.args.item c.args.stops.now covers (told c.loop-stop.news.items (verdict_of s c.args.item)) noted.all
     (subst (λ (more : List Stop). Settled s t c.args.item c.args.stops.now covers (dirs_of more) (told c.loop-stop.news.items (verdict_of s c.args.item)) noted.all) none noted.settled)
 
 pub returns-in_err-judge_anew-clause-few : goal.returns-in_err-judge_anew-clause-few
-returns-in_err-judge_anew-clause-few g c = λ atoms covers even.
+returns-in_err-judge_anew-clause-few g c = λ covers even.
     let t = g.Y.Layout.state c.args.layout.now in
     let stops = c.args.stops.now in
     let stop : Stop = c.stop-item.result in
     let deps : List ℕ = depends t stop.dir in
-    let noted = (c.loop-stop.invariant.1 atoms covers).0 in
-    let both = (c.loop-stop.invariant.1 atoms covers).1 even in
+    let noted = (c.loop-stop.invariant.1 covers).0 in
+    let both = (c.loop-stop.invariant.1 covers).1 even in
     let left : drop c.loop-stop.stop-index stops ≡ stop ∷ drop (c.loop-stop.stop-index + 1) stops =
     drop_more stops c.loop-stop.stop-index stop c.loop-stop-test.true ∙ ap (λ (stop : Stop). stop ∷ drop (c.loop-stop.stop-index + 1) stops) (sym c.stop-item.is) in
     let same : (stop.leans && list_any (has c.loop-stop.moved.items) deps) ≡ (stop.leans && list_any (has noted.all) deps) =
@@ -163,13 +163,13 @@ returns-in_err-judge_anew-clause-few g c = λ atoms covers even.
     ]
 
 pub returns-in_err-note_move-clause-few : goal.returns-in_err-note_move-clause-few
-returns-in_err-note_move-clause-few g c = λ atoms covers even.
+returns-in_err-note_move-clause-few g c = λ covers even.
     let t = g.Y.Layout.state c.args.layout.now in
     let stops = c.args.stops.now in
     let stop : Stop = c.stop-item.result in
     let deps : List ℕ = depends t stop.dir in
-    let noted = (c.loop-stop.invariant.1 atoms covers).0 in
-    let both = (c.loop-stop.invariant.1 atoms covers).1 even in
+    let noted = (c.loop-stop.invariant.1 covers).0 in
+    let both = (c.loop-stop.invariant.1 covers).1 even in
     let left : drop c.loop-stop.stop-index stops ≡ stop ∷ drop (c.loop-stop.stop-index + 1) stops =
     drop_more stops c.loop-stop.stop-index stop c.loop-stop-test.true ∙ ap (λ (stop : Stop). stop ∷ drop (c.loop-stop.stop-index + 1) stops) (sym c.stop-item.is) in
     let same : (stop.leans && list_any (has c.loop-stop.moved.items) deps) ≡ (stop.leans && list_any (has noted.all) deps) =
@@ -185,4 +185,4 @@ returns-in_err-note_move-clause-few g c = λ atoms covers even.
     ]
 
 pub returns-clause-few : goal.returns-clause-few
-returns-clause-few g c = λ atoms covers even. let both = (c.loop-stop.invariant.1 atoms covers).1 even in let bound = both.1 in omega (arith, bound)
+returns-clause-few g c = λ covers even. let both = (c.loop-stop.invariant.1 covers).1 even in let bound = both.1 in omega (arith, bound)

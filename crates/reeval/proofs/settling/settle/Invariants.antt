@@ -1,6 +1,5 @@
 use Rattle.std.specs.Prelude.{◌≡◌, ◌≤◌, ◌+◌, [], drop, false, true}
 use Rattle.std.specs.List.{list_all, list_any}
-use Rattle.hac_model.specs.Tree.Links.{atom}
 use Rattle.reeval.specs.Judging.{verdict_of}
 use Rattle.reeval.specs.Probes.{is_moved, terms_along, terms_asked}
 use Rattle.reeval.specs.Routes.{Covers, dirs_of}
@@ -13,8 +12,7 @@ use Rattle.reeval.proofs.settling.settle.Given as goal
 abbrev pub invariant-loop-stop : goal.invariant-loop-stop
 invariant-loop-stop g l =
     (list_all (is_on l.item) l.news.items ≡ true) × (
-    g.A.Atoms.atoms l.atoms ≡ atom (g.Y.Layout.state l.layout)
-    → (covers : Covers (g.B.Before.state l.before) (g.Y.Layout.state l.layout) l.stops l.item)
+    (covers : Covers (g.B.Before.state l.before) (g.Y.Layout.state l.layout) l.stops l.item)
     → (noted : Noted (g.B.Before.state l.before) (g.Y.Layout.state l.layout) l.item l.stops covers l.leans (dirs_of (drop l.stop-index l.stops))
     (told l.news.items (verdict_of (g.B.Before.state l.before) l.item)) l.moved.items) × (
     is_moved (g.B.Before.state l.before) (g.Y.Layout.state l.layout) l.stops l.item ≡ false

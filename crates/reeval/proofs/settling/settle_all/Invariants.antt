@@ -1,6 +1,5 @@
-use Rattle.std.specs.Prelude.{◌≡◌, ◌≤◌, ◌+◌, ◌*◌, ℕ, drop, length}
+use Rattle.std.specs.Prelude.{◌≤◌, ◌+◌, ◌*◌, ℕ, drop, length}
 use Rattle.hac_model.specs.Tree.Depends.{Among}
-use Rattle.hac_model.specs.Tree.Links.{atom}
 use Rattle.reeval.specs.Probes.{terms_along, terms_settled}
 use Rattle.reeval.specs.Routes.{Covers}
 use Rattle.reeval.proofs.SeveralLemmas.{PartlySettled}
@@ -9,10 +8,8 @@ use Rattle.reeval.proofs.settling.settle_all.Given as goal
 -- the items so far are settled, and the questions for those that are left can still be asked
 abbrev pub invariant-loop-item : goal.invariant-loop-item
 invariant-loop-item g l =
-    (g.A.Atoms.atoms l.atoms ≡ atom (g.Y.Layout.state l.layout)
-    → PartlySettled (g.B.Before.state l.before) (g.Y.Layout.state l.layout) l.stops l.items (drop l.item-index l.items) l.fn.delta.items l.delta.items) × (
+    (PartlySettled (g.B.Before.state l.before) (g.Y.Layout.state l.layout) l.stops l.items (drop l.item-index l.items) l.fn.delta.items l.delta.items) × (
     l.probes + length (drop l.item-index l.items) * terms_along (g.Y.Layout.state l.layout) l.stops ≤ l.fn.probes + length l.items * terms_along (g.Y.Layout.state l.layout) l.stops) × (
-    g.A.Atoms.atoms l.atoms ≡ atom (g.Y.Layout.state l.layout)
-    → ((item : ℕ) → Among l.items item → Covers (g.B.Before.state l.before) (g.Y.Layout.state l.layout) l.stops item)
+    ((item : ℕ) → Among l.items item → Covers (g.B.Before.state l.before) (g.Y.Layout.state l.layout) l.stops item)
     → l.probes + terms_settled (g.B.Before.state l.before) (g.Y.Layout.state l.layout) l.stops (drop l.item-index l.items)
     ≤ l.fn.probes + terms_settled (g.B.Before.state l.before) (g.Y.Layout.state l.layout) l.stops l.items)

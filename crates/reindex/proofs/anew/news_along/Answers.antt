@@ -1,5 +1,4 @@
-use Rattle.std.proofs.Common.{ap, arith, sym, ◌∙◌}
-use Rattle.hac_model.specs.Tree.Links.{atom}
+use Rattle.std.proofs.Common.{ap, arith}
 use Rattle.hac_model.specs.declared.states.State.{State}
 use Rattle.reeval.specs.Probes.{terms_along}
 use Rattle.reindex.specs.Anew.{unjudged_state}
@@ -14,8 +13,7 @@ pub returns-clause-news : goal.returns-clause-news
 returns-clause-news g c =
     let s = c.args.kept.now.state in
     settled-news s (g.Y.Layout.state c.args.layout.now) (unjudged_state s) c.args.stops.now c.args.item c.settle.result c.requires.layout
-    (said-none s c.requires.unlent c.args.item) c.settle.ensures.own
-    (c.settle.ensures.news (c.requires.atoms ∙ ap atom (sym c.requires.layout))) c.requires.way
+    (said-none s c.requires.unlent c.args.item) c.settle.ensures.own c.settle.ensures.news c.requires.way
 
 pub returns-clause-probes : goal.returns-clause-probes
 returns-clause-probes g c =

@@ -1,7 +1,6 @@
 use Rattle.std.proofs.Common.{◌≡◌, List, ap, arith, subst, sym, ◌∙◌}
 use Rattle.std.specs.Prelude.{◌||◌, is_some}
 use Rattle.std.specs.Option.{option_copied}
-use Rattle.hac_model.specs.Tree.Links.{atom}
 use Rattle.reeval.specs.Probes.{terms_along}
 use Rattle.reeval.specs.Routes.{Covers}
 use Rattle.reeval.specs.declared.settling.Stop.{Stop}
@@ -34,6 +33,3 @@ returns-then-len-le-FEW_STOPS-clause-probes g c =
 
 pub news_along-requires-clause-layout : goal.news_along-requires-clause-layout
 news_along-requires-clause-layout g c = indexed-none c.args.kept.now.state c.know_valid.ensures.layout
-
-pub news_along-requires-clause-atoms : goal.news_along-requires-clause-atoms
-news_along-requires-clause-atoms g c = ap atom (indexed-none c.args.kept.now.state c.know_valid.ensures.layout)

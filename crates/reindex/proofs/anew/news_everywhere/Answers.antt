@@ -1,4 +1,4 @@
-use Rattle.std.proofs.Common.{◌≡◌, List, ap, arith, refl, subst, sym, ◌∙◌}
+use Rattle.std.proofs.Common.{◌≡◌, List, ap, arith, subst, sym, ◌∙◌}
 use Rattle.hac_model.specs.Tree.{empty}
 use Rattle.reeval.specs.Probes.{terms_along}
 use Rattle.reeval.specs.Routes.{Covers}
@@ -19,7 +19,7 @@ pub returns-clause-news : goal.returns-clause-news
 returns-clause-news g c =
     let s = c.args.kept.now.state in
     settled-news s (indexed_through 0 s) empty c.as_slice-stops.result.now c.args.item c.settle.result (indexed-none s c.know_valid.ensures.layout)
-    (empty-said c.args.item) c.settle.ensures.own (c.settle.ensures.news refl)
+    (empty-said c.args.item) c.settle.ensures.own c.settle.ensures.news
     (subst (λ (stops : List Stop). Covers empty s stops c.args.item) (sym c.as_slice-stops.ensures.value) (covers-blank s c.know_valid.ensures c.args.way.now c.requires c.args.item))
 
 pub returns-clause-probes : goal.returns-clause-probes

@@ -1,7 +1,7 @@
 use Rattle.std.proofs.Common.{◌≡◌, List, ap, arith, subst, sym, ◌∙◌}
 use Rattle.std.specs.Prelude.{None, Some, map}
 use Rattle.hac_model.specs.Query.Words.{words}
-use Rattle.hac_model.specs.Tree.Links.{atom, query_at, shown_of}
+use Rattle.hac_model.specs.Tree.Links.{query_at, shown_of}
 use Rattle.hac_model.specs.declared.states.State.{State}
 use Rattle.query_index.specs.Seen.{IsFitOf}
 use Rattle.reeval.specs.Probes.{terms_along}
@@ -34,7 +34,7 @@ invariant_of-fitted g c =
     let w = c.requires.way in
     fit-tells (map (query_at s) w.order) c.in_ok-fit.fit (indexed_through 0 s) c.args.item c.args.text.now
     (subst (λ (t : State). shown_of t c.args.item ≡ Some c.args.text.now) (sym (indexed-none s c.know_valid.ensures.layout)) c.requires.shows)
-    (c.in_ok-fit.ensures (map (query_at s) w.order) w.index)
+    (c.in_ok-fit.ensures (map (query_at s) w.order) w.over.index)
 
 pub news_along-requires-clause-way : goal.news_along-requires-clause-way
 news_along-requires-clause-way g c =
@@ -62,6 +62,3 @@ returns-clause-probes g c =
 
 pub news_along-requires-clause-layout : goal.news_along-requires-clause-layout
 news_along-requires-clause-layout g c = indexed-none c.args.kept.now.state c.know_valid.ensures.layout
-
-pub news_along-requires-clause-atoms : goal.news_along-requires-clause-atoms
-news_along-requires-clause-atoms g c = ap atom (indexed-none c.args.kept.now.state c.know_valid.ensures.layout)

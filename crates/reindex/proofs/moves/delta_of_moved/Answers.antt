@@ -9,14 +9,14 @@ pub news_of_moved-requires-clause-moves : goal.news_of_moved-requires-clause-mov
 news_of_moved-requires-clause-moves g c = c.requires.moves c.item-item.result (among-at c.args.items.now c.loop-item.item-index c.item-item.result c.loop-item-test.true c.item-item.is)
 
 pub loop-item-init : goal.loop-item-init
-loop-item-init g c = (λ atoms. settled-none c.args.past.now (g.Y.Layout.state c.args.layout.now) c.new-delta.result.items c.new-delta.ensures.items, omega arith)
+loop-item-init g c = (settled-none c.args.past.now (g.Y.Layout.state c.args.layout.now) c.new-delta.result.items c.new-delta.ensures.items, omega arith)
 
 pub loop-item-preserved : goal.loop-item-preserved
 loop-item-preserved g c = (
-  λ atoms. settled-next c.args.past.now (g.Y.Layout.state c.args.layout.now) c.args.items.now c.loop-item.item-index c.item-item.result c.loop-item.delta.items c.in_ok-news.news.items _
+  settled-next c.args.past.now (g.Y.Layout.state c.args.layout.now) c.args.items.now c.loop-item.item-index c.item-item.result c.loop-item.delta.items c.in_ok-news.news.items _
       c.requires.once c.loop-item-test.true c.item-item.is
       (c.in_ok-extend_from_slice.ensures.items ∙ ap (λ more. c.loop-item.delta.items ++ more) c.as_slice.ensures.value)
-      c.in_ok-news.ensures.own (c.in_ok-news.ensures.news atoms) (c.loop-item.invariant.0 atoms),
+      c.in_ok-news.ensures.own c.in_ok-news.ensures.news c.loop-item.invariant.0,
   more-at c.args.items.now c.loop-item.item-index c.item-item.result (weight (g.Y.Layout.state c.args.layout.now)) c.args.probes.now c.loop-item.probes c.news_of_moved.new.probes
       c.loop-item-test.true c.loop-item.invariant.1 c.in_ok-news.ensures.probes,
 )

@@ -11,10 +11,10 @@ use Rattle.reindex.proofs.ProbeLemmas.{along-needed}
 use Rattle.reindex.proofs.moves.news_of_moved.Goals as goal
 
 pub returns-clause-news : goal.returns-clause-news
-returns-clause-news g c = λ atoms.
+returns-clause-news g c =
     let s = c.args.past.now in
     let t = g.Y.Layout.state c.args.layout.now in
-    c.settle.ensures.news atoms
+    c.settle.ensures.news
     (subst (λ (stops : List Stop). Covers s t stops c.args.item) (sym c.as_slice-2.ensures.value)
     (covers-place s t c.args.item c.requires.moves (subst IsValid c.past.view_is c.know_valid.ensures) c.requires.after c.args.way.now c.requires.way
     c.in_ok-stops.stops.items c.as_slice.result.now c.as_slice.ensures.value

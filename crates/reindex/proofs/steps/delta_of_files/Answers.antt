@@ -9,8 +9,8 @@ use Rattle.reindex.proofs.steps.delta_of_files.Goals as goal
 
 pub loop-file-preserved : goal.loop-file-preserved
 loop-file-preserved g c =
-    let s = c.args.ahead.now.kept.now.state in
-    let t = indexed_through c.args.ahead.now.last s in
+    let s = c.args.ahead.now.indexing.kept.now.state in
+    let t = indexed_through c.args.ahead.now.indexing.last s in
     let files = c.args.files.now in
     let i = c.loop-file.file-index in
     let file = c.file-item.result in
