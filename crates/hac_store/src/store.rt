@@ -56,7 +56,7 @@ impl Store {
     }
 
     /// Whether `records` records with payloads of `payload` bytes each fit in the store.
-    pub fn room_for(&self, records: u64, payload: u64) -> bool
+    pub(crate) fn room_for(&self, records: u64, payload: u64) -> bool
         ensures { result ≡ fit_behind self.now.setting.state.version self.now.setting.end records
             payload }
     {

@@ -34,7 +34,7 @@ pub fn links_of<L: Ledger>(
     ensures probes { probes.new ≤ probes.old + opening kept.now.state }
 {
     kept.know_valid();
-    let mut found = Links::new(alloc)?;
+    let mut found = Links::new(alloc);
     for number in kept.numbers(alloc)? {
         add_links(alloc, kept, way, &mut found, number, probes)?;
     }

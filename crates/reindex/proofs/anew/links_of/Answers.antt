@@ -1,8 +1,9 @@
-use Rattle.std.proofs.Common.{arith, ◌∙◌}
+use Rattle.std.proofs.Common.{arith, refl, subst, sym, ◌∙◌}
 use Rattle.std.proofs.lemmas.List.{nil_from_length}
 use Rattle.std.specs.Prelude.{◌+◌}
 use Rattle.hac_model.specs.Tree.Costs.{opening, weight}
 use Rattle.hac_model.specs.Tree.Links.{is_item}
+use Rattle.link_kinds.specs.Seen.{IsEmpty}
 use Rattle.file_tree.proofs.LiveLemmas.{through-begins, through-ends, through-goes, through-here}
 use Rattle.reindex.specs.Anew.{AreLinksBelow}
 use Rattle.reindex.proofs.AnewLemmas.{below-all, below-none, none-passed}
@@ -12,11 +13,11 @@ use Rattle.reindex.proofs.anew.links_of.Goals as goal
 pub loop-number-init : goal.loop-number-init
 loop-number-init g c =
     let s = c.args.kept.now.state in
-    let found = c.in_ok-found.found in
+    let found = c.new-found.result in
     let valid = c.know_valid.ensures in
     let are = c.into_iter-number-iterator.ensures.into_iter_gives.0 ∙ c.in_ok-number-items.ensures in (
       through-begins (AreLinksBelow s found) s.entries s.next valid.layout.numbers (λ k none so_far. none-passed s found k valid none so_far)
-          c.into_iter-number-iterator.result.rest.items are (below-none s found c.in_ok-found.ensures.empty),
+          c.into_iter-number-iterator.result.rest.items are (below-none s found (subst IsEmpty (sym c.new-found.ensures) (λ dir. refl))),
       opened s valid c.into_iter-number-iterator.result.rest.items are c.args.probes.now,
     )
 
