@@ -134,10 +134,8 @@ pub fn answers_after<'a>(answers: &'a Answers, event: &Event, mount: Number) -> 
     ensures { result.now ≡ answers_after event.now answers.now mount }
 {
     match event {
-        Event::Smkdir { .. }
-        | Event::Setq { .. }
-        | Event::Smount { .. }
-        | Event::Ssync { .. } => answers.next_of(mount),
+        Event::Smkdir { .. } | Event::Setq { .. } | Event::Smount { .. } | Event::Ssync { .. } =>
+            answers.next_of(mount),
         Event::Sumount { mount: gone } => answers_without(answers, *gone, mount),
         _ => answers.kept_by(mount),
     }
