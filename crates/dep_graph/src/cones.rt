@@ -1,5 +1,6 @@
 //! Which directories depend on some, in an order in which each can be looked at once.
-ghost use Rattle.std.specs.Prelude.{◌≡◌, ◌==◌, ◌≢◌, ◌||◌, ◌↔◌, ℕ, [], length, nat_eq, not, true, IfOk};
+ghost use Rattle.std.specs.Prelude.{◌≡◌, ◌==◌, ◌≢◌, ◌||◌, ◌↔◌, ℕ, [], length, nat_eq, not, true};
+ghost use Rattle.std.specs.Prelude.{IfOk};
 ghost use Rattle.std.specs.List.{list_any};
 ghost use Rattle.std.specs.Option.{option_copied};
 ghost use Rattle.hac_model.specs.Tree.Depends.{Among, NeverReturns};

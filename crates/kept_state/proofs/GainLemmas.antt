@@ -39,7 +39,7 @@ taken-within zero told h = omega arith
 taken-within (suc k) [] h = absurd (omega (arith, h))
 taken-within (suc k) (numbers ∷ told) h = let rest = taken-within k told (omega (arith, h)) in omega (arith, rest)
 
-pub filled-mount : (facts : Facts) (body : Body) → is_mount (filled facts body) ≡ is_mount body
+filled-mount : (facts : Facts) (body : Body) → is_mount (filled facts body) ≡ is_mount body
 filled-mount facts (Mount space answers) = refl
 filled-mount facts (Semantic query permanent prohibited) = refl
 filled-mount facts (File text dirty shown) = refl

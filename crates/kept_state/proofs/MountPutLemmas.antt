@@ -1,5 +1,5 @@
 -- Mounts are put: what they need, and what each of their events does to the tree, the marks and the answers.
-use Rattle.std.proofs.Common.{◌≡◌, ℕ, ◌≤◌, Bool, true, false, cond, List, [], length, subst, refl, ap, sym, ◌∙◌}
+use Rattle.std.proofs.Common.{◌≡◌, ℕ, ◌≤◌, Bool, true, false, cond, List, [], length, refl, ap, sym, ◌∙◌}
 use Rattle.std.specs.Prelude.{◌==◌, Option, Some, None, IsTrue}
 use Rattle.std.specs.List.{list_all}
 use Rattle.std.specs.Option.{option_map, option_map_or}
