@@ -64,8 +64,8 @@ pub record IsUsable (seen : Option (List ℕ)) (store : Seen) : Type 0 where
 -- The store has gone on to this setting. It can go on as before, and if the disk stood for what it was, the disk stands
 -- for what it is.
 pub record HasGoneOn {D : Type 0} (seen : D → Option (List ℕ)) (image : D → List ℕ → Type 0) (old new : D)
-    (before after : Seen) (setting : Setting) : Type 0 where
-  pub setting : after.setting ≡ setting
+    (before after : Seen) (next : Setting) : Type 0 where
+  pub setting : after.setting ≡ next
   pub intact : after.broken ≡ before.broken
   pub place : Bears (seen new) after
   pub stands : Stands (seen old) (image old) before.setting → Stands (seen new) (image new) after.setting
