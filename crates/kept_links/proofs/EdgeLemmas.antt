@@ -1,7 +1,7 @@
 -- Where judging begins nowhere, what depends on what stays as it was.
 use Rattle.std.proofs.Common.{◌≡◌, ℕ, Bool, true, false, List, [], ◌∷◌, ◌++◌, ap, arith, eq-eqb, refl, sym, ◌∙◌}
 use Rattle.std.proofs.lemmas.Bool.{eqb-true}
-use Rattle.std.specs.Prelude.{◌==◌, ◌||◌, filter, if◌then◌else◌, length, Option, Some, None, IsTrue, is_some}
+use Rattle.std.specs.Prelude.{◌==◌, ◌||◌, drop, filter, if◌then◌else◌, length, Option, Some, None, IsTrue, is_some}
 use Rattle.std.specs.Option.{option_map, option_map_or}
 use Rattle.hac_model.specs.Query.Formula.{Formula}
 use Rattle.hac_model.specs.Tree.Depends.{depends, named_in}
@@ -148,27 +148,27 @@ module _ (s : State) (h : IsValid s) where
   edges-still event ok never n =
       edges-told s n ∙ event-edges event ok never n ∙ ap (λ (f : Facts). f.edges) (sym (facts-law s h event ok n)) ∙ sym (edges-told (apply s event) n)
 
--- a list that makes another no longer is empty
-no-longer : (xs ys : List ℕ) → length (xs ++ ys) ≡ length (xs ++ []) → ys ≡ []
-no-longer [] [] h = refl
-no-longer [] (y ∷ ys) h = absurd cc
-no-longer (x ∷ xs) ys h = no-longer xs ys (omega (arith, h))
+-- what stands behind the front of a list
+behind-front : (xs ys : List ℕ) → drop (length xs) (xs ++ ys) ≡ ys
+behind-front [] ys = refl
+behind-front (x ∷ xs) ys = behind-front xs ys
 
-pub lends-still : (s : State) (h : IsValid s) (event : Event) → IsTrue (accepted s event) → ((dir : ℕ) → begins s event dir ≡ false) → (n : ℕ) → lenders s n ≡ [] → lenders (apply s event) n ≡ []
-lends-still s h event ok never n none = at (query_at (apply s event) n) refl
+-- nor does what was added to a directory
+pub lenders-still : (s : State) (h : IsValid s) (event : Event) → IsTrue (accepted s event) → ((dir : ℕ) → begins s event dir ≡ false) → (n : ℕ) → lenders s n ≡ lenders (apply s event) n
+lenders-still s h event ok never n = at (query_at s n) refl
   where
     t : State
     t = apply s event
 
-    at : (o : Option (Formula ℕ)) → query_at t n ≡ o → lenders t n ≡ []
-    at None plain = plain-lends t n plain
-    at (Some asked) asks =
-        let before : query_at s n ≡ Some asked = asks-still s h event ok n (never n) ∙ asks in
-        let own : depends s n ≡ parent_of s n ∷ (named_in asked ++ []) =
-        ap (λ (o : Option (Formula ℕ)). option_map_or (λ (query : Formula ℕ). parent_of s n ∷ (named_in query ++ lenders s n)) o []) before
-        ∙ ap (λ (ks : List ℕ). parent_of s n ∷ (named_in asked ++ ks)) none in
-        let later : depends t n ≡ parent_of t n ∷ (named_in asked ++ lenders t n) =
-        ap (λ (o : Option (Formula ℕ)). option_map_or (λ (query : Formula ℕ). parent_of t n ∷ (named_in query ++ lenders t n)) o []) asks in
-        let long : length (parent_of t n ∷ (named_in asked ++ lenders t n)) ≡ length (parent_of s n ∷ (named_in asked ++ [])) =
-        ap (λ (ks : List ℕ). length ks) (sym later ∙ sym (edges-still s h event ok never n) ∙ own) in
-        no-longer (named_in asked) (lenders t n) (omega (arith, long))
+    asks : query_at s n ≡ query_at t n
+    asks = asks-still s h event ok n (never n)
+
+    edges : (u : State) (asked : Formula ℕ) → query_at u n ≡ Some asked → depends u n ≡ parent_of u n ∷ (named_in asked ++ lenders u n)
+    edges u asked is = ap (λ (o : Option (Formula ℕ)). option_map_or (λ (query : Formula ℕ). parent_of u n ∷ (named_in query ++ lenders u n)) o []) is
+
+    at : (o : Option (Formula ℕ)) → query_at s n ≡ o → lenders s n ≡ lenders t n
+    at None plain = plain-lends s n plain ∙ sym (plain-lends t n (sym asks ∙ plain))
+    at (Some asked) is =
+        sym (behind-front (named_in asked) (lenders s n))
+        ∙ ap (λ (ks : List ℕ). drop (length (named_in asked)) (drop 1 ks)) (sym (edges s asked is) ∙ edges-still s h event ok never n ∙ edges t asked (sym asks ∙ is))
+        ∙ behind-front (named_in asked) (lenders t n)

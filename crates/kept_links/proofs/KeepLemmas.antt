@@ -14,7 +14,6 @@ use Rattle.hac_model.specs.declared.versions.Version.{Version}
 use Rattle.link_kinds.specs.Kinds.{Lists}
 use Rattle.kept_state.specs.After.{is_quiet}
 use Rattle.link_kinds.specs.Seen.{IsEmpty, Known, LinkListsRise, SameKinds}
-use Rattle.query_index.specs.Seen.{IsIndexOf}
 use Rattle.reeval.specs.Judging.{verdict_of}
 use Rattle.reeval.specs.Settled.{AreLinksOf, HasRoom, verdict_in}
 use Rattle.reeval.specs.Told.{news_on, told}
@@ -24,7 +23,7 @@ use Rattle.hac_model.proofs.AcyclicLemmas.{apply-valid}
 use Rattle.hac_model.proofs.RaisedLemmas.{links-raised}
 use Rattle.kept_state.specs.Seen.{Seen}
 use Rattle.reindex.specs.Past.{Lead}
-use Rattle.reindex.specs.Ways.{IsWayOf, any_leans}
+use Rattle.reindex.specs.Ways.{IsWayOf, IsWayOver}
 use Rattle.reindex.specs.declared.ways.Way.{Way}
 use Rattle.kept_links.specs.Kept.{AreLinksKept}
 use Rattle.kept_links.specs.declared.linked.LinkedState.TheInside.{Inside}
@@ -56,21 +55,18 @@ nothing-wanted known delta none = subst (λ (changes : List Change). HasRoom kno
 -- The way to all semantic directories.
 
 -- none is there beside the root alone
-pub way-root : (version : Version) (way : Way) → way.stops.items ≡ [] → IsIndexOf [] way.index → way.leans ≡ false → IsWayOf (root_alone version) way
-way-root version way none index leans = record {
+pub way-root : (version : Version) (way : Way) → IsWayOver (root_alone version) [] way → IsWayOf (root_alone version) way
+way-root version way over = record {
   order = [];
   ordered = tt;
   all = λ dir some. absurd (some refl);
   only = λ dir among. absurd among;
-  stops = none;
-  index = index;
-  lends = λ not_any dir. refl;
-  leaning = leans ∙ sym (ap any_leans none);
+  over = over;
 }
 
 -- a state that is raised has the same one
 way-raised : (s : State) (way : Way) → IsWayOf s way → IsWayOf (raised s) way
-way-raised s way is = record { order = is.order; ordered = is.ordered; all = is.all; only = is.only; stops = is.stops; index = is.index; lends = is.lends; leaning = is.leaning }
+way-raised s way is = record { order = is.order; ordered = is.ordered; all = is.all; only = is.only; over = record { stops = is.over.stops; index = is.over.index; lends = is.over.lends; leaning = is.over.leaning } }
 
 -- what is ready for nothing leaves it
 pub nothing-next : (s : State) (ready : List Event) (way : Way) (next : Option Way) → ready ≡ [] → next ≡ None → IsWayOf s way → IsWayOf (apply_all s ready) (unwrap_or next way)

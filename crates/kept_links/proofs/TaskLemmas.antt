@@ -43,7 +43,7 @@ use Rattle.reindex.specs.Ways.{IsWayOver, IsWayOf, begun_at, leans, needed, with
 use Rattle.reindex.specs.declared.ways.Way.{Way}
 use Rattle.reeval.proofs.TieLemmas.{ties-leave}
 use Rattle.kept_links.proofs.CostLemmas.{from-most, touched-most}
-use Rattle.kept_links.proofs.EdgeLemmas.{edges-still, lends-still}
+use Rattle.kept_links.proofs.EdgeLemmas.{edges-still, lenders-still}
 use Rattle.kept_links.proofs.ItemLemmas.{in-neither, others-once, others-untouched, touched-apart, touched-once, touched-touches}
 use Rattle.kept_links.proofs.NewDirLemmas.{passed-over}
 use Rattle.kept_links.proofs.SemanticLemmas.{asks-still, semantic-still}
@@ -51,7 +51,7 @@ use Rattle.kept_links.proofs.MarkLemmas.{mark-begins, mark-leaves}
 use Rattle.reindex.proofs.SettledLemmas.{leads-if}
 use Rattle.reindex.proofs.ProbeLemmas.{along-needed}
 use Rattle.reindex.proofs.NeededLemmas.{covers-needed, needed-everywhere}
-use Rattle.reindex.proofs.WayLemmas.{begun-way, covers-at, covers-everywhere, covers-from, depends-semantic, leans-well, semantic-depends, way-over}
+use Rattle.reindex.proofs.WayLemmas.{begun-way, covers-at, covers-everywhere, covers-from, depends-semantic, leans-well, lends-none, semantic-depends, way-over}
 
 -- an order over the same edges
 ordered-same : (edges other : ℕ → List ℕ) → ((n : ℕ) → edges n ≡ other n) → (ns : List ℕ) → IsOrdered edges ns → IsOrdered other ns
@@ -133,7 +133,7 @@ only-if event mark stops all (Err memory) is same each = tt
 -- where it isn't a mark, judging begins at each, as it does on the way
 pub begun-others : (s : State) (event : Event) (way : Way) → IsWayOf s way → ((mark : MarkData) → event ≡ Mark mark → ⊥) → needed (begun_at (begins_touched event) way.stops.items) ≡ way.stops.items
 begun-others s (Mark mark) way w other = absurd (other mark refl)
-begun-others s event way w other = ap needed (begun-way s way w (λ dir. true)) ∙ needed-everywhere (leans s) w.order ∙ sym w.stops
+begun-others s event way w other = ap needed (begun-way s way w (λ dir. true)) ∙ needed-everywhere (leans s) w.order ∙ sym w.over.stops
 
 -- one that an event touches which is no mark is judged at each directory
 covers-all : (s : State) (event : Event) → IsValid s → IsTrue (accepted s event) → (way : Way) (w : IsWayOf (apply s event) way) (item : ℕ) → touches s event item ≡ true → Covers s (apply s event) (stops_everywhere (apply s event) w.order) item
@@ -173,7 +173,7 @@ module _ (s : State) (event : Event) (valid : IsValid s) (ok : IsTrue (accepted 
   -- an item that is touched, on the way to all semantic directories
   covers-touched : (way : Way) → IsWayOf t way → (item : ℕ) → touches s event item ≡ true → Covers s t way.stops.items item
   covers-touched way w item is =
-      subst (λ (stops : List Stop). Covers s t stops item) (sym w.stops) (covers-all s event valid ok way w item is)
+      subst (λ (stops : List Stop). Covers s t stops item) (sym w.over.stops) (covers-all s event valid ok way w item is)
 
   -- and any other one
   covers-other : (first : ℕ) (stops : List Stop) → ((dir : ℕ) → begins s event dir ≡ (dir == first)) → AreAlong t first (is_tie event) stops → (item : ℕ) → touches s event item ≡ false → Covers s t stops item
@@ -263,10 +263,12 @@ module _ (s : State) (event : Event) (valid : IsValid s) (ok : IsTrue (accepted 
     ordered = ordered-same (depends s) (depends t) (edges-still s valid event ok never) w.order w.ordered;
     all = λ dir some. w.all dir (λ none. some (sym (edges-still s valid event ok never dir) ∙ none));
     only = λ dir inside none. w.only dir inside (edges-still s valid event ok never dir ∙ none);
-    stops = w.stops ∙ (λ i. stops_at (λ dir. true) (λ dir. leans-still dir i) w.order);
-    index = subst (λ (queries : List (Option (Formula ℕ))). IsIndexOf queries way.index) (λ i. map (λ dir. asks-still s valid event ok dir (never dir) i) w.order) w.index;
-    lends = λ not_any dir. lends-still s valid event ok never dir (w.lends not_any dir);
-    leaning = w.leaning;
+    over = record {
+      stops = w.over.stops ∙ (λ i. stops_at (λ dir. true) (λ dir. leans-still dir i) w.order);
+      index = subst (λ (queries : List (Option (Formula ℕ))). IsIndexOf queries way.index) (λ i. map (λ dir. asks-still s valid event ok dir (never dir) i) w.order) w.over.index;
+      lends = w.over.lends ∙ (λ i. list_any (λ dir. not (length (lenders-still s valid event ok never dir i) == 0)) w.order);
+      leaning = w.over.leaning;
+    };
   }
     where
       asked-still : (dir : ℕ) → is_semantic s dir ≡ is_semantic t dir
@@ -331,7 +333,7 @@ still-leads s (Mkdir parent name) way valid ok w still item dir = nothing-new s 
 still-leads s (Rewrite file text) way valid ok w still item dir = nothing-new s (Rewrite file text) valid ok (λ d. refl) item refl dir
 still-leads s (Ln parent name target) way valid ok w still item dir = nothing-new s (Ln parent name target) valid ok (λ d. refl) item refl dir
 still-leads s (NewFile parent name text) way valid ok w still item dir =
-    new-still s parent name text valid ok (λ d. lends-still s valid (NewFile parent name text) ok (λ n. refl) d (w.lends (is-not way.lends still) d)) item dir
+    new-still s parent name text valid ok (λ d. sym (lenders-still s valid (NewFile parent name text) ok (λ n. refl) d) ∙ lends-none s way w (is-not way.lends still) d) item dir
   where
     is-not : (b : Bool) → not b ≡ true → b ≡ false
     is-not true h = sym h

@@ -2,7 +2,7 @@
 use Rattle.std.specs.Prelude.{◌≡◌, Bool, true, false, not, unwrap_or, [], IfSome}
 use Rattle.hac_model.specs.Tree.Events.{apply_all}
 use Rattle.hac_model.specs.declared.events.Event.{Event}
-use Rattle.hac_model.specs.declared.events.Event.TheVariants.{Mkdir, NewFile, Rewrite, Ln}
+use Rattle.hac_model.specs.declared.events.Event.TheVariants.{Mkdir, NewFile, Rewrite, Ln, Step}
 use Rattle.hac_model.specs.declared.states.State.{State}
 use Rattle.kept_state.specs.After.{next_state}
 use Rattle.kept_state.specs.Seen.{Seen}
@@ -23,6 +23,11 @@ seen_of linked = linked.kept
 pub record AreNews (s t : State) (old : Way) (news : News) : Type 0 where
   pub leads : Lead s t news.delta.items
   pub way : IsWayOf t (unwrap_or news.way old)
+
+-- the event is a step
+abbrev pub is_step : Event → Bool
+is_step Step = true
+is_step other = false
 
 -- nothing is said of any item, and nothing is added to a directory, that wasn't before
 abbrev pub is_still : Bool → Event → Bool

@@ -8,7 +8,7 @@ ghost use Rattle.hac_model.specs.Tree.Limits as limits;
 ghost use Rattle.hac_model.specs.Tree.Links.{atom};
 ghost use Rattle.hac_model.specs.Tree.Sessions.{is_stored};
 ghost use Rattle.hac_model.specs.Tree.{raised, root_alone};
-ghost use Rattle.kept_state.specs.After.{is_quiet};
+ghost use Rattle.kept_links.specs.Kept.{is_step};
 ghost use Rattle.reeval.specs.Settled.{AreLinksOf};
 
 use crate::news::prepared_news;
@@ -17,7 +17,6 @@ use hac_outside::Steps;
 use hac_words::has_term;
 use kept_state::KeptState;
 use link_kinds::Links;
-use query_index::QueryIndex;
 use reeval::{Change, apply, reserve};
 use reindex::lookups::{is_document, know_lists, parent_of};
 use reindex::{Way, delta_of_steps, shown_of};
@@ -61,12 +60,7 @@ impl LinkedState {
         Ok(LinkedState {
             kept: KeptState::new(alloc, version)?,
             found: Links::new(alloc)?,
-            way: Way {
-                stops: Vec::new(alloc),
-                index: QueryIndex::new(alloc),
-                lends: false,
-                leans: false,
-            },
+            way: Way::new(alloc),
             delta: Vec::new(alloc),
             next: None,
         })
@@ -122,7 +116,7 @@ impl LinkedState {
         ensures err { OnErr result (self.new ≡ record { state = self.old.state; ready = [] }) }
         ensures probes { probes.new ≤ probes.old + cost self.old.state event }
     {
-        if is_quiet(&event) {
+        if is_step(&event) {
             drop(event);
             return self.prepare_steps(alloc, 1, probes);
         }
@@ -222,9 +216,9 @@ fn put_way(way: &mut Way, next: &mut Option<Way>)
     }
 }
 
-/// Whether an event is a step, or moves a session.
-fn is_quiet(event: &Event) -> bool
-    ensures { result ≡ is_quiet event.now }
+/// Whether an event is a step.
+fn is_step(event: &Event) -> bool
+    ensures { result ≡ is_step event.now }
 {
-    matches!(event, Event::Step | Event::Cd { .. })
+    matches!(event, Event::Step)
 }

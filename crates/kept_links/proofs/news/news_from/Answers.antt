@@ -1,4 +1,4 @@
-use Rattle.std.proofs.Common.{◌≡◌, List, ap, refl, subst, sym}
+use Rattle.std.proofs.Common.{◌≡◌, List, ap, subst, sym}
 use Rattle.hac_model.specs.Tree.Events.{apply_all}
 use Rattle.hac_model.specs.declared.events.Event.{Event}
 use Rattle.hac_model.specs.declared.states.State.{State}
@@ -21,11 +21,11 @@ returns-clause-news g c =
     let s = c.args.coming.now.kept.now.state in
     record {
       leads = λ item dir. subst (λ (t : State). told (news_on item c.in_ok-delta.delta.items) (verdict_of s item) dir ≡ verdict_of t item dir) c.new-outlook.ensures
-          (c.in_ok-delta.ensures.news refl (subst (λ (t : State). IsPlanned s t c.in_ok-task.task) (sym c.new-outlook.ensures) c.in_ok-task.ensures.planned) item dir);
+          (c.in_ok-delta.ensures.news (subst (λ (t : State). IsPlanned s t c.in_ok-task.task) (sym c.new-outlook.ensures) c.in_ok-task.ensures.planned) item dir);
       way = way-found s c.args.coming.now.event.now c.know_valid.ensures c.requires.coming.accepted c.in_ok-way.way c.args.first c.requires.begins
           (subst (λ (next : State). IsWayFrom s next c.args.first c.in_ok-way.way) (ap (λ (events : List Event). apply_all s events) c.requires.coming.ready) c.in_ok-way.ensures);
     }
 
 pub returns-clause-probes : goal.returns-clause-probes
 returns-clause-probes g c =
-    planned-cost c.args.coming.now.kept.now.state c.new-outlook.result c.args.coming.now.event.now c.in_ok-task.task c.args.probes.now c.plan.new.probes c.new-outlook.ensures c.in_ok-task.ensures (c.plan.ensures.probes refl)
+    planned-cost c.args.coming.now.kept.now.state c.new-outlook.result c.args.coming.now.event.now c.in_ok-task.task c.args.probes.now c.plan.new.probes c.new-outlook.ensures c.in_ok-task.ensures c.plan.ensures.probes

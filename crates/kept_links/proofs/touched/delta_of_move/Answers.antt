@@ -1,4 +1,4 @@
-use Rattle.std.proofs.Common.{◌≡◌, refl, subst, sym, ◌∙◌}
+use Rattle.std.proofs.Common.{◌≡◌, subst, sym, ◌∙◌}
 use Rattle.std.specs.Prelude.{IfOk}
 use Rattle.dep_graph.specs.Searches.{EachOnce}
 use Rattle.hac_model.specs.Tree.Touched.{touched}
@@ -33,7 +33,7 @@ returns-clause-behind g c =
     let e = c.args.coming.now.event.now in
     let items = c.as_slice-items.result.now in
     touched-leads s e c.know_valid.ensures c.requires.coming.accepted c.requires.never items c.delta_of_moved.result (c.as_slice-items.ensures.value ∙ c.in_ok-items.ensures)
-    (subst (λ (t : State). IfOk c.delta_of_moved.result (λ delta. AreSettled s t items delta.items)) c.new-outlook.ensures (c.delta_of_moved.ensures.settled refl))
+    (subst (λ (t : State). IfOk c.delta_of_moved.result (λ delta. AreSettled s t items delta.items)) c.new-outlook.ensures c.delta_of_moved.ensures.settled)
 
 pub returns-clause-probes : goal.returns-clause-probes
 returns-clause-probes g c =

@@ -1,4 +1,4 @@
-use Rattle.std.proofs.Common.{refl, subst, sym}
+use Rattle.std.proofs.Common.{subst, sym}
 use Rattle.std.specs.Prelude.{IfOk}
 use Rattle.hac_model.specs.declared.states.State.{State}
 use Rattle.reeval.specs.Settled.{IsPlanned}
@@ -14,8 +14,8 @@ pub returns-clause-behind : goal.returns-clause-behind
 returns-clause-behind g c =
     let s = c.args.coming.now.kept.now.state in
     subst (λ (t : State). IfOk c.plan.result (λ delta. Lead s t delta.items)) c.new-outlook.ensures
-    (c.plan.ensures.news refl (subst (λ (t : State). IsPlanned s t c.in_ok-task.task) (sym c.new-outlook.ensures) c.in_ok-task.ensures.planned))
+    (c.plan.ensures.news (subst (λ (t : State). IsPlanned s t c.in_ok-task.task) (sym c.new-outlook.ensures) c.in_ok-task.ensures.planned))
 
 pub returns-clause-probes : goal.returns-clause-probes
 returns-clause-probes g c =
-    planned-cost c.args.coming.now.kept.now.state c.new-outlook.result c.args.coming.now.event.now c.in_ok-task.task c.args.probes.now c.plan.new.probes c.new-outlook.ensures c.in_ok-task.ensures (c.plan.ensures.probes refl)
+    planned-cost c.args.coming.now.kept.now.state c.new-outlook.result c.args.coming.now.event.now c.in_ok-task.task c.args.probes.now c.plan.new.probes c.new-outlook.ensures c.in_ok-task.ensures c.plan.ensures.probes
