@@ -38,7 +38,7 @@ SameAnswers old new = (mount : ℕ) → answers_kept new mount ≡ answers_kept 
 abbrev pub Replaces : Answered → Answered → ℕ → List Answer → Type 0
 Replaces old new number answers = (mount : ℕ) → answers_kept new mount ≡ (if mount == number then answers else answers_kept old mount)
 
--- the same is to be
+-- one mount is to keep these answers, and the others what they keep
 abbrev pub WillReplace : Answered → ℕ → List Answer → Type 0
 WillReplace kept number answers = (mount : ℕ) → answers_next kept mount ≡ (if mount == number then answers else answers_kept kept mount)
 
