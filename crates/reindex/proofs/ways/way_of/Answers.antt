@@ -19,6 +19,6 @@ returns c =
     (subst (λ (ns : List ℕ). IsCone (edges_of c.graph-2.result.now) dirs ns) (sym c.as_slice-2.ensures.value)
     (subst (λ (ns : List ℕ). IsCone (edges_of c.graph-2.result.now) ns c.in_ok-order.order.items) c.as_slice.ensures.value c.in_ok-order.ensures)) in
     way-if c.way_over.result s (indexed_through 0 s) order (indexed-none s c.know_valid.ensures.layout) cone.ordered
-    (λ dir some. cone.all dir some (dir, c.in_ok-dirs.ensures dir (λ none. some (sym (c.graph.ensures.edges dir) ∙ none)), (0, refl)))
+    (λ dir some. cone.all dir some (dir, (c.in_ok-dirs.ensures.all dir).1 (λ none. some (sym (c.graph.ensures.edges dir) ∙ none)), (0, refl)))
     (λ dir inside. (cone.reached dir inside).0)
     c.way_over.ensures
