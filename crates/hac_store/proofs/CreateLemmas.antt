@@ -1,10 +1,10 @@
 -- What a crash may leave while a new store is being made.
-use Rattle.std.proofs.Common.{◌≡◌, ℕ, ◌<◌, List, [], ◌∷◌, ◌++◌, length, take, drop, slice_index, None, Some, Ok, Err, Result, IfOk, IfSome, rules, OnOk, IsErr, refl, sym, ◌∙◌, ap, subst, arith, append_assoc}
+use Rattle.std.proofs.Common.{◌≡◌, ◌⊎◌, inl, inr, ℕ, ◌<◌, List, [], ◌∷◌, ◌++◌, length, take, drop, slice_index, None, Some, Ok, Err, Result, IfOk, IfSome, rules, OnOk, IsErr, refl, sym, ◌∙◌, ap, subst, arith, append_assoc}
 use Rattle.std.specs.declared.option.Option.{Option}
 use Rattle.std.proofs.lemmas.List.{get_or-take, drop_at, take_at, length-take}
 use Rattle.hac_disk.specs.Images.{IsQuiet, LeavesOnly, Torn, TornFrom, overlaid}
 use Rattle.hac_disk.specs.Contents.{HasByteAt, HasLength, IsSettled, StandAt, Written}
-use Rattle.hac_disk.proofs.Moments.{quiet_leaves, then_run, weaken}
+use Rattle.hac_disk.proofs.Moments.{quiet_leaves, then_quiet, then_run, weaken}
 use Rattle.hac_disk.proofs.ContentsLemmas.{if_known, told-settled}
 use Rattle.hac_journal.specs.Appending.{ClosedAt}
 use Rattle.hac_model.specs.Run.Play.{new_setting}
@@ -21,6 +21,11 @@ use Rattle.hac_store.proofs.NewLemmas.{opened-held, opened-rooted, torn-behind, 
 pub ok-then : {T E P Q : Type 0} (result : Result T E) → (P → Q) → OnOk result P → OnOk result Q
 ok-then (Ok value) then_q p = then_q p
 ok-then (Err e) then_q p = tt
+
+-- what is said of a file, said of it where it is known
+if_each : (seen : Option (List ℕ)) (P : List ℕ → Type 0) → ((file : List ℕ) → seen ≡ Some file → P file) → IfSome seen P
+if_each None P each = tt
+if_each (Some file) P each = each file refl
 
 -- what a known file became
 pub record Became (P : List ℕ → Type 0) (new : Option (List ℕ)) : Type 0 where
@@ -161,3 +166,15 @@ module _ {D : Type 0} (seen : D → Option (List ℕ)) (image : D → List ℕ �
       let all = became (seen old) (seen mid) IsReady file is ready in
       then_run moment image_since old mid new IsNewOrNone (subst (λ s. IfSome s (λ _. LeavesNew old mid)) is so_far)
       (write-run mid new 0 1 all.file all.is kept run (λ c torn. torn-open all.file c all.has torn)))
+
+  -- a store is made once nothing was found
+  pub made-moments : (old synced found new : D) → Quiet old synced → Quiet synced found → Leaves found new
+      → IfSome (seen old) (λ file. IsErr (held file) → LeavesOnly moment image_since old new (λ c. image old c ⊎ IsNewOrNone c))
+  made-moments old synced found new first second leaves =
+      if_each (seen old) (λ file. IsErr (held file) → LeavesOnly moment image_since old new (λ c. image old c ⊎ IsNewOrNone c)) (λ file is none.
+      let told : seen found ≡ Some file = second.same ∙ first.same ∙ is in
+      let run = subst (λ s. IfSome s (λ _. LeavesNew found new)) told leaves in
+      let P : List ℕ → Type 0 = λ c. image old c ⊎ IsNewOrNone c in
+      let begun = quiet_leaves moment image_since seen image old synced P (λ c since. inl (only_now old c since)) first in
+      then_run moment image_since old found new P (then_quiet moment image_since seen image old synced found P begun second)
+      (weaken moment image_since found new IsNewOrNone P (λ c new. inr new) run))

@@ -4,6 +4,7 @@ pub mod CheckpointLemmas
 pub mod CostLemmas
 pub mod CreateLemmas
 pub mod HeldLemmas
+pub mod LinkedLemmas
 pub mod LiveLemmas
 pub mod LoadLemmas
 pub mod LogLemmas

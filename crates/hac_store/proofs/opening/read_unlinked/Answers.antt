@@ -50,7 +50,8 @@ returns-in-Err-clause-loads g c =
       state = opens-stop seen c.in_ok-root.root c.read_log.new.replay c.in-Err.fault c.in_ok-root.ensures.root
           (read-area (Err c.in-Err.fault) seen c.in_ok-root.root.start begun c.read_log.new.replay begins reads);
       place = search rules;
-      quiet = search rules;
+      quiet = quiet-twice g.D.Disk.seen g.D.Disk.image g.D.Disk.moment g.D.Disk.image_since c.args.disk.now c.roots.new.disk c.read_log.new.disk c.roots.ensures.quiet
+          (quiet-twice g.D.Disk.seen g.D.Disk.image g.D.Disk.moment g.D.Disk.image_since c.roots.new.disk c.begin.new.disk c.read_log.new.disk c.begin.ensures.quiet c.in-Err.ensures.quiet);
       kind = search rules;
       names = search rules;
       reported = search rules;
