@@ -7,8 +7,8 @@ ghost use Rattle.hac_model.specs.Run.Refusals.{root_cause, taken_cause, under_ca
 ghost use Rattle.hac_model.specs.Run.Standing.{AllStand, IsSlot, is_own};
 ghost use Rattle.hac_core.specs.Blocking.{link_cause, tree_cause};
 
-use crate::marking::{is_link, marked, not_permanent, unreferenced};
-use crate::sessions::{has_place, idle};
+use crate::marking::{require_link, require_marked, require_not_permanent, require_unreferenced};
+use crate::sessions::{require_idle, require_place};
 use event_check::is_inside;
 use file_tree::Tree;
 use hac_model::{Deny, Number, Place, Refusal, Resolved};
@@ -18,7 +18,11 @@ use std::alloc::Global;
 
 /// Denies a command that something blocks, for the first such cause: what the tree says comes
 /// before what links, marks, other queries and sessions say.
-pub fn unblocked(alloc: Global, linked: &LinkedState, command: &Resolved) -> Result<(), Deny>
+pub fn require_unblocked(
+    alloc: Global,
+    linked: &LinkedState,
+    command: &Resolved,
+) -> Result<(), Deny>
     requires { AllStand linked.now.state command.now }
     ensures { Passes result (blocking_cause linked.now.state command.now) }
 {
@@ -45,33 +49,35 @@ fn fits_tree_alone(tree: &Tree, command: &Resolved) -> Result<(), Deny>
         Resolved::Mkdir { place }
         | Resolved::Ln { place, .. }
         | Resolved::Smkdir { place, .. }
-        | Resolved::Smount { place, .. } => vacant(tree, place),
-        Resolved::Write { place, .. } => writable(tree, place),
-        Resolved::Cat { entry } => file(tree, *entry),
+        | Resolved::Smount { place, .. } => require_vacant(tree, place),
+        Resolved::Write { place, .. } => require_writable(tree, place),
+        Resolved::Cat { entry } => require_file(tree, *entry),
         Resolved::Mv { entry, place } => {
-            not_root(*entry)?;
-            vacant(tree, place)?;
-            outside(tree, *entry, place)
+            require_not_root(*entry)?;
+            require_vacant(tree, place)?;
+            require_outside(tree, *entry, place)
         }
         Resolved::Rm { entry } => {
-            not_root(*entry)?;
-            file(tree, *entry)
+            require_not_root(*entry)?;
+            require_file(tree, *entry)
         }
-        Resolved::Readlink { entry } => symlink(tree, *entry),
+        Resolved::Readlink { entry } => require_symlink(tree, *entry),
         Resolved::Rmdir { dir } => {
-            not_root(*dir)?;
-            empty(tree, *dir)
+            require_not_root(*dir)?;
+            require_empty(tree, *dir)
         }
-        Resolved::Setq { dir, .. } => not_root(*dir),
-        Resolved::Ssync { mount: dir } | Resolved::Sumount { mount: dir } => mount(tree, *dir),
+        Resolved::Setq { dir, .. } => require_not_root(*dir),
+        Resolved::Ssync { mount: dir } | Resolved::Sumount { mount: dir } => require_mount(
+            tree, *dir,
+        ),
         Resolved::Unq { dir }
         | Resolved::Query { dir }
         | Resolved::Sls { dir }
         | Resolved::Sln { dir, .. }
-        | Resolved::Sforget { dir, .. } => semantic(tree, *dir),
+        | Resolved::Sforget { dir, .. } => require_semantic(tree, *dir),
         Resolved::Srm { item, dir } => {
-            file(tree, *item)?;
-            semantic(tree, *dir)
+            require_file(tree, *item)?;
+            require_semantic(tree, *dir)
         }
         Resolved::Ls { .. }
         | Resolved::Cd { .. }
@@ -93,19 +99,19 @@ fn fits_links(alloc: Global, linked: &LinkedState, command: &Resolved) -> Result
     let kept = linked.kept();
     match command {
         Resolved::Rmdir { dir } | Resolved::Sumount { mount: dir } => {
-            unreferenced(alloc, kept, *dir)?;
-            idle(kept, *dir)
+            require_unreferenced(alloc, kept, *dir)?;
+            require_idle(kept, *dir)
         }
-        Resolved::Cd { session, dir } => has_place(kept, session, *dir),
-        Resolved::Sln { item, dir } => not_permanent(kept, *item, *dir),
-        Resolved::Srm { item, dir } => is_link(linked, *item, *dir),
-        Resolved::Sforget { item, dir } => marked(kept, *item, *dir),
+        Resolved::Cd { session, dir } => require_place(kept, session, *dir),
+        Resolved::Sln { item, dir } => require_not_permanent(kept, *item, *dir),
+        Resolved::Srm { item, dir } => require_link(linked, *item, *dir),
+        Resolved::Sforget { item, dir } => require_marked(kept, *item, *dir),
         _ => Ok(()),
     }
 }
 
 /// The root can't be removed or moved, and gets no query.
-fn not_root(number: Number) -> Result<(), Deny>
+fn require_not_root(number: Number) -> Result<(), Deny>
     ensures { Passes result (root_cause number) }
 {
     if number == Number::ROOT {
@@ -115,7 +121,7 @@ fn not_root(number: Number) -> Result<(), Deny>
 }
 
 /// Nothing is where something is to be created.
-fn vacant(tree: &Tree, place: &Place) -> Result<(), Deny>
+fn require_vacant(tree: &Tree, place: &Place) -> Result<(), Deny>
     ensures { Passes result (taken_cause tree.now.state place.now) }
 {
     match place {
@@ -125,17 +131,17 @@ fn vacant(tree: &Tree, place: &Place) -> Result<(), Deny>
 }
 
 /// A text is written to a file, or where nothing is.
-fn writable(tree: &Tree, place: &Place) -> Result<(), Deny>
+fn require_writable(tree: &Tree, place: &Place) -> Result<(), Deny>
     ensures { Passes result (written_cause tree.now.state place.now) }
 {
     match place {
-        Place::There(number) => file(tree, *number),
+        Place::There(number) => require_file(tree, *number),
         Place::Free { .. } => Ok(()),
     }
 }
 
 /// No directory is where a file is wanted.
-fn file(tree: &Tree, number: Number) -> Result<(), Deny>
+fn require_file(tree: &Tree, number: Number) -> Result<(), Deny>
     ensures { Passes result (directory_cause tree.now.state number) }
 {
     if tree.is_directory(number) {
@@ -145,7 +151,7 @@ fn file(tree: &Tree, number: Number) -> Result<(), Deny>
 }
 
 /// A symbolic link is where one is wanted.
-fn symlink(tree: &Tree, number: Number) -> Result<(), Deny>
+fn require_symlink(tree: &Tree, number: Number) -> Result<(), Deny>
     ensures { Passes result (not_link_cause tree.now.state number) }
 {
     if tree.is_symlink(number) {
@@ -155,7 +161,7 @@ fn symlink(tree: &Tree, number: Number) -> Result<(), Deny>
 }
 
 /// A directory to be removed is empty.
-fn empty(tree: &Tree, dir: Number) -> Result<(), Deny>
+fn require_empty(tree: &Tree, dir: Number) -> Result<(), Deny>
     ensures { Passes result (filled_cause tree.now.state dir) }
 {
     if tree.children(dir).is_empty() {
@@ -165,7 +171,7 @@ fn empty(tree: &Tree, dir: Number) -> Result<(), Deny>
 }
 
 /// An entry doesn't move into itself.
-fn outside(tree: &Tree, entry: Number, place: &Place) -> Result<(), Deny>
+fn require_outside(tree: &Tree, entry: Number, place: &Place) -> Result<(), Deny>
     requires entry { IsTrue (is_own tree.now.state false entry) }
     requires place { IsSlot tree.now.state false place.now }
     ensures { Passes result (under_cause tree.now.state entry place.now) }
@@ -180,7 +186,7 @@ fn outside(tree: &Tree, entry: Number, place: &Place) -> Result<(), Deny>
 }
 
 /// A directory is a mount.
-fn mount(tree: &Tree, dir: Number) -> Result<(), Deny>
+fn require_mount(tree: &Tree, dir: Number) -> Result<(), Deny>
     ensures { Passes result (not_mount_cause tree.now.state dir) }
 {
     if tree.is_mount(dir) {
@@ -190,7 +196,7 @@ fn mount(tree: &Tree, dir: Number) -> Result<(), Deny>
 }
 
 /// A directory has a query.
-fn semantic(tree: &Tree, dir: Number) -> Result<(), Deny>
+fn require_semantic(tree: &Tree, dir: Number) -> Result<(), Deny>
     ensures { Passes result (plain_cause tree.now.state dir) }
 {
     if tree.query(dir).is_some() {

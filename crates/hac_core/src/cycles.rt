@@ -8,7 +8,7 @@ use kept_state::KeptState;
 use std::alloc::Global;
 
 /// Denies an event after which a directory would depend on itself.
-pub fn acyclic(alloc: Global, kept: &KeptState, event: &Event) -> Result<(), Deny>
+pub fn require_acyclic(alloc: Global, kept: &KeptState, event: &Event) -> Result<(), Deny>
     ensures { Passes result (cycle_against kept.now.state event.now) }
 {
     let on = match event {

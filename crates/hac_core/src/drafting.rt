@@ -8,7 +8,7 @@ ghost use Rattle.hac_core.specs.Drafts.{IsChange, IsCounted, IsDraftFor, IsKnown
 ghost use Rattle.hac_core.specs.Drafts.{change_cause};
 ghost use Rattle.tree_counts.specs.Seated.{is_seated};
 
-use crate::cycles::acyclic;
+use crate::cycles::require_acyclic;
 use crate::drafts::{Change, Draft, Known};
 use crate::events::{Made, made_by};
 use crate::questions::asks_of;
@@ -80,7 +80,7 @@ fn changing(alloc: Global, kept: &KeptState, event: Event) -> Result<Known, Deny
 {
     let counts = counts_after(kept, &event);
     let change = Change { event, counts };
-    match permitted(alloc, kept, &change) {
+    match require_permitted(alloc, kept, &change) {
         Ok(()) => Ok(Known::Changes(change)),
         Err(deny) => {
             drop(change);
@@ -91,10 +91,10 @@ fn changing(alloc: Global, kept: &KeptState, event: Event) -> Result<Known, Deny
 
 /// Denies a change that would exceed a limit on the tree itself or let a directory depend on
 /// itself.
-fn permitted(alloc: Global, kept: &KeptState, change: &Change) -> Result<(), Deny>
+fn require_permitted(alloc: Global, kept: &KeptState, change: &Change) -> Result<(), Deny>
     requires { IsCounted kept.now.state change.now }
     ensures { Passes result (change_cause kept.now.state change.now.event) }
 {
     within(&change.counts.layout_limits(version(kept)))?;
-    acyclic(alloc, kept, &change.event)
+    require_acyclic(alloc, kept, &change.event)
 }

@@ -14,7 +14,7 @@ ghost use Rattle.hac_model.specs.Tree.Valid.{IsValid};
 ghost use Rattle.hac_core.specs.Drafts.{CanSettle, IsDraft, IsDraftFor, IsDraftOf, Settles, reads};
 ghost use Rattle.hac_core.specs.Drafts.{Shows, settled_events};
 
-use crate::blocking::unblocked;
+use crate::blocking::require_unblocked;
 use crate::drafting::drafted;
 use crate::drafts::{Change, Draft, Known, Settled};
 use crate::settling::settled;
@@ -101,7 +101,7 @@ impl Machine {
         let kept = self.linked.kept();
         kept.know_valid();
         let command = followed(self.alloc, kept, line)?;
-        match unblocked(self.alloc, &self.linked, &command) {
+        match require_unblocked(self.alloc, &self.linked, &command) {
             Ok(()) => drafted(self.alloc, kept, command),
             Err(deny) => {
                 drop(command);

@@ -12,7 +12,7 @@ use std::alloc::Global;
 use tree_answers::{is_linked, is_marked, is_permanent, least_referrer};
 
 /// The item or directory isn't a permanent link yet.
-pub fn not_permanent(kept: &KeptState, item: Number, dir: Number) -> Result<(), Deny>
+pub fn require_not_permanent(kept: &KeptState, item: Number, dir: Number) -> Result<(), Deny>
     ensures { Passes result (already_cause kept.now.state item dir) }
 {
     if is_permanent(kept, dir, item) {
@@ -22,7 +22,7 @@ pub fn not_permanent(kept: &KeptState, item: Number, dir: Number) -> Result<(), 
 }
 
 /// The item is a link, added or found.
-pub fn is_link(linked: &LinkedState, item: Number, dir: Number) -> Result<(), Deny>
+pub fn require_link(linked: &LinkedState, item: Number, dir: Number) -> Result<(), Deny>
     ensures { Passes result (unlinked_cause linked.now.state item dir) }
 {
     if is_linked(linked, dir, item) {
@@ -32,7 +32,7 @@ pub fn is_link(linked: &LinkedState, item: Number, dir: Number) -> Result<(), De
 }
 
 /// The item or directory has a mark.
-pub fn marked(kept: &KeptState, item: Number, dir: Number) -> Result<(), Deny>
+pub fn require_marked(kept: &KeptState, item: Number, dir: Number) -> Result<(), Deny>
     ensures { Passes result (unmarked_cause kept.now.state item dir) }
 {
     if is_marked(kept, dir, item) {
@@ -43,7 +43,7 @@ pub fn marked(kept: &KeptState, item: Number, dir: Number) -> Result<(), Deny>
 
 /// No directory refers to one that is to be removed. Where some do, the refusal has the least path
 /// of such a directory.
-pub fn unreferenced(alloc: Global, kept: &KeptState, dir: Number) -> Result<(), Deny>
+pub fn require_unreferenced(alloc: Global, kept: &KeptState, dir: Number) -> Result<(), Deny>
     requires { IsTrue (is_directory_at kept.now.state.entries dir) }
     ensures { Passes result (referenced_cause kept.now.state dir) }
 {

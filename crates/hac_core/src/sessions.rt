@@ -7,7 +7,7 @@ use kept_state::KeptState;
 
 /// No session stands in a directory to be removed. Where some do, the refusal has the least of
 /// their names.
-pub fn idle(kept: &KeptState, dir: Number) -> Result<(), Deny>
+pub fn require_idle(kept: &KeptState, dir: Number) -> Result<(), Deny>
     ensures { Passes result (busy_cause kept.now.state dir) }
 {
     match kept.least_visitor(dir)? {
@@ -17,7 +17,7 @@ pub fn idle(kept: &KeptState, dir: Number) -> Result<(), Deny>
 }
 
 /// There is a place for a session in a directory.
-pub fn has_place(kept: &KeptState, session: &Name, dir: Number) -> Result<(), Deny>
+pub fn require_place(kept: &KeptState, session: &Name, dir: Number) -> Result<(), Deny>
     ensures { Passes result (session_cause kept.now.state session.now dir) }
 {
     if kept.has_place_for(session, dir) {

@@ -34,7 +34,7 @@ pub fn settled(
         ≡ settled_change (answered kept.now.state answers change.event)) }
     ensures limits { Passes result (settling_cause kept.now.state answers change.event) }
 {
-    match few_documents(kept, &answers) {
+    match require_few_documents(kept, &answers) {
         Ok(()) => settled_few(alloc, kept, change, answers),
         Err(deny) => {
             drop(change);
@@ -45,7 +45,7 @@ pub fn settled(
 }
 
 /// Denies more documents than a mount may have.
-fn few_documents(kept: &KeptState, answers: &Answers) -> Result<(), Deny>
+fn require_few_documents(kept: &KeptState, answers: &Answers) -> Result<(), Deny>
     ensures { Passes result (docs_cause kept.now.state answers.now) }
 {
     if answers.list.as_slice().len() as u64 <= version(kept).docs_limit() {
@@ -72,7 +72,7 @@ fn settled_few(
     ensures limits { Passes result (settling_cause kept.now.state answers change.event) }
 {
     let change = answered(alloc, kept, change, answers)?;
-    match within_limits(alloc, kept, &change) {
+    match require_limits(alloc, kept, &change) {
         Ok(()) => Ok(outcome(change)),
         Err(deny) => {
             drop(change);
@@ -82,16 +82,16 @@ fn settled_few(
 }
 
 /// Denies a change that would exceed a limit, by the first such limit.
-fn within_limits(alloc: Global, kept: &KeptState, change: &Change) -> Result<(), Deny>
+fn require_limits(alloc: Global, kept: &KeptState, change: &Change) -> Result<(), Deny>
     requires { IsTrue (is_placed kept.now.state change.now.event) }
     ensures { Passes result (limits_cause kept.now.state change.now) }
 {
     within_all(version(kept), change.counts)?;
-    few_answers(alloc, kept, &change.event)
+    require_few_answers(alloc, kept, &change.event)
 }
 
 /// Denies an event after which mounts would keep more answers than they may.
-fn few_answers(alloc: Global, kept: &KeptState, event: &Event) -> Result<(), Deny>
+fn require_few_answers(alloc: Global, kept: &KeptState, event: &Event) -> Result<(), Deny>
     requires { IsTrue (is_placed kept.now.state event.now) }
     ensures { Passes result (keeping_cause kept.now.state event.now) }
 {

@@ -56,7 +56,7 @@ fn reply_to<L: Ledger>(
 {
     let kept = linked.kept();
     kept.know_valid();
-    match not_gone(kept, command, answers) {
+    match require_not_gone(kept, command, answers) {
         Ok(()) => lines_of(alloc, linked, command, answers, probes),
         Err(deny) => Err(deny),
     }
@@ -81,7 +81,7 @@ fn lines_of<L: Ledger>(
 }
 
 /// Denies a document that its space has no more.
-fn not_gone(kept: &KeptState, command: &Resolved, answers: &Answers) -> Result<(), Deny>
+fn require_not_gone(kept: &KeptState, command: &Resolved, answers: &Answers) -> Result<(), Deny>
     ensures { Passes result (gone_cause answers.now kept.now.state command.now) }
 {
     match command {

@@ -6,8 +6,8 @@ use Rattle.hac_core.proofs.SettleLemmas.{settling-is}
 use Rattle.hac_core.specs.declared.drafts.Change.{Change}
 use Rattle.hac_core.proofs.settling.settled_few.Goals as goal
 
-pub within_limits-requires : goal.within_limits-requires
-within_limits-requires c = subst (λ (change : Change). IsTrue (is_placed c.args.kept.now.state change.event)) (sym c.in_ok-change.ensures) c.requires.placed
+pub require_limits-requires : goal.require_limits-requires
+require_limits-requires c = subst (λ (change : Change). IsTrue (is_placed c.args.kept.now.state change.event)) (sym c.in_ok-change.ensures) c.requires.placed
 
 pub returns-in-Ok-clause-limits : goal.returns-in-Ok-clause-limits
 returns-in-Ok-clause-limits c =

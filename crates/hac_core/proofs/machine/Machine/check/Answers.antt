@@ -10,8 +10,8 @@ use Rattle.hac_model.specs.Run.Refusals.{cause_against, early_cause, early_refus
 use Rattle.hac_model.specs.declared.replies.Refusal.{Refusal}
 use Rattle.hac_model.specs.declared.states.State.{State}
 
-pub unblocked-requires : goal.unblocked-requires
-unblocked-requires c =
+pub require_unblocked-requires : goal.require_unblocked-requires
+require_unblocked-requires c =
     subst (λ (seen : Seen). AllStand seen.state c.in_ok-command.command) c.kept-kept.ensures
     (line-stands c.kept-kept.result.now.state c.args.line c.in_ok-command.command c.know_valid.ensures c.requires c.in_ok-command.ensures)
 

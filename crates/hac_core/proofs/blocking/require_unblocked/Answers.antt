@@ -1,5 +1,5 @@
 use Rattle.hac_core.proofs.BlockingLemmas.{blocked-early, blocked-late}
-use Rattle.hac_core.proofs.blocking.unblocked.Goals as goal
+use Rattle.hac_core.proofs.blocking.require_unblocked.Goals as goal
 
 pub returns-in-Err : goal.returns-in-Err
 returns-in-Err c = blocked-early c.args.linked.now.state c.args.command.now c.in-Err.deny c.in-Err.ensures

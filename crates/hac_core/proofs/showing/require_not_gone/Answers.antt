@@ -5,8 +5,8 @@ use Rattle.hac_model.specs.declared.replies.Refusal.{Refusal}
 use Rattle.hac_model.specs.declared.replies.Refusal.TheVariants as refusal
 use Rattle.kept_state.proofs.StateLemmas.{same-document}
 use Rattle.hac_core.proofs.ShowLemmas.{gone-file, gone-other, gone-told}
-use Rattle.hac_core.proofs.showing.not_gone.Goals.{in_default-via-in-Cat+else-is_document, in_default-via-in_default}
-use Rattle.hac_core.proofs.showing.not_gone.Goals as goal
+use Rattle.hac_core.proofs.showing.require_not_gone.Goals.{in_default-via-in-Cat+else-is_document, in_default-via-in_default}
+use Rattle.hac_core.proofs.showing.require_not_gone.Goals as goal
 
 abbrev gone : Path → Option Refusal
 gone path = Some (refusal.Gone path)
