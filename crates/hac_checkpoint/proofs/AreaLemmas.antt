@@ -4,6 +4,7 @@ use Rattle.std.specs.declared.option.Option.{Option}
 use Rattle.std.proofs.lemmas.List.{append-nil, drop-drop, drop_at, length-take, take_at}
 use Rattle.byteorder.specs.Endian.{little_bytes}
 use Rattle.byteorder.specs.Numbers.{length-bytes_low_first}
+use Rattle.hac_disk.specs.Seen.{DiskSeen, IsLawful}
 use Rattle.hac_disk.specs.Images.{Elapses, Follows, LeavesOnly, Torn, TornFrom, overlaid}
 use Rattle.hac_disk.specs.Contents.{StartsWithin, Written, WrittenInPart}
 use Rattle.hac_disk.proofs.ContentsLemmas.{told-written}
@@ -58,44 +59,39 @@ area-written seen one two new at head payload starts is first second third =
     subst (λ l. Written seen at l new) parts all
 
 -- none of them changes more than the area
-module _ {D : Type 0} (seen : D → Option (List ℕ)) (image : D → List ℕ → Type 0) (moment : D → ℕ) (image_since : D → ℕ → List ℕ → Type 0)
-    (only_now : (disk : D) (c : List ℕ) → image_since disk (moment disk) c → image disk c) where
-  abbrev Within : ℕ → ℕ → D → D → Type 0
-  Within at size old new = WritesWithin seen image moment image_since at (size + 6) old new
+abbrev Within : ℕ → ℕ → DiskSeen → DiskSeen → Type 0
+Within at size old new = WritesWithin at (size + 6) old new
 
-  -- what a write says of its images
-  abbrev Images : ℕ → List ℕ → D → D → Type 0
-  Images at bytes old new = Follows (Torn at (length bytes)) (image old) (image new)
+-- what a write says of its images
+abbrev Images : ℕ → List ℕ → DiskSeen → DiskSeen → Type 0
+Images at bytes old new = Follows (Torn at (length bytes)) old.image new.image
 
-  abbrev Time : D → D → Type 0
-  Time old new = Elapses (moment old) (moment new) (image_since old) (image_since new) (image new)
+abbrev Answers : {T E : Type 0} → Result T E → ℕ → List ℕ → DiskSeen → DiskSeen → Type 0
+Answers result at bytes old new = OnOk result (Written old.contents at bytes new.contents) × OnErr result (WrittenInPart old.contents at (length bytes) new.contents)
 
-  abbrev Answers : {T E : Type 0} → Result T E → ℕ → List ℕ → D → D → Type 0
-  Answers result at bytes old new = OnOk result (Written (seen old) at bytes (seen new)) × OnErr result (WrittenInPart (seen old) at (length bytes) (seen new))
+module _ {T E : Type 0} (first : Result T E) (at size : ℕ) (head : List ℕ) (old one : DiskSeen) (is : head ≡ 1 ∷ little_bytes 4 size) (starts : StartsWithin old.contents at)
+    (lawful : IsLawful old) (told : Answers first at head old one) (images : Images at head old one) (time : Elapses old one) where
+  five : length head ≡ 5
+  five = omega (arith, ap length is, length-bytes_low_first 0 4 size)
 
-  module _ {T E : Type 0} (first : Result T E) (at size : ℕ) (head : List ℕ) (old one : D) (is : head ≡ 1 ∷ little_bytes 4 size) (starts : StartsWithin (seen old) at)
-      (told : Answers first at head old one) (images : Images at head old one) (time : Time old one) where
-    five : length head ≡ 5
-    five = omega (arith, ap length is, length-bytes_low_first 0 4 size)
+  pub first-within : Within at size old one
+  first-within =
+      within-write first at at (size + 6) head old one lawful (omega arith) (omega (arith, five)) starts told.0 told.1 images time
 
-    pub first-within : Within at size old one
-    first-within =
-        within-write seen image moment image_since only_now first at at (size + 6) head old one (omega arith) (omega (arith, five)) starts told.0 told.1 images time
+  module _ {Value Fault : Type 0} (second : Result Value Fault) (payload : List ℕ) (two : DiskSeen) (long : length payload ≡ size) (written : Written old.contents at head one.contents)
+      (lawful2 : IsLawful one) (told2 : Answers second (at + 5) payload one two) (images2 : Images (at + 5) payload one two) (time2 : Elapses one two) where
+    behind : StartsWithin one.contents (at + 5)
+    behind = subst (λ k. StartsWithin one.contents (at + k)) five (starts-behind old.contents one.contents at head starts written)
 
-    module _ {Value Fault : Type 0} (second : Result Value Fault) (payload : List ℕ) (two : D) (long : length payload ≡ size) (written : Written (seen old) at head (seen one))
-        (told2 : Answers second (at + 5) payload one two) (images2 : Images (at + 5) payload one two) (time2 : Time one two) where
-      behind : StartsWithin (seen one) (at + 5)
-      behind = subst (λ k. StartsWithin (seen one) (at + k)) five (starts-behind (seen old) (seen one) at head starts written)
+    pub second-within : Within at size old two
+    second-within =
+        within-run at (size + 6) old one two first-within
+        (within-write second (at + 5) at (size + 6) payload one two lawful2 (omega arith) (omega (arith, long)) behind told2.0 told2.1 images2 time2)
 
-      pub second-within : Within at size old two
-      second-within =
-          within-run seen image moment image_since at (size + 6) old one two first-within
-          (within-write seen image moment image_since only_now second (at + 5) at (size + 6) payload one two (omega arith) (omega (arith, long)) behind told2.0 told2.1 images2 time2)
-
-      pub third-within : {Last Failure : Type 0} (third : Result Last Failure) (new : D) → Written (seen one) (at + 5) payload (seen two)
-          → Answers third (at + 5 + size) (0 ∷ []) two new → Images (at + 5 + size) (0 ∷ []) two new
-          → LeavesOnly moment image_since two new (TornFrom (at + 5 + size) 1 (image two)) → Within at size old new
-      third-within third new both told3 images3 run =
-          let end = subst (λ k. StartsWithin (seen two) (at + 5 + k)) long (starts-behind (seen one) (seen two) (at + 5) payload behind both) in
-          within-run seen image moment image_since at (size + 6) old two new second-within
-          (within-stable seen image moment image_since third (at + 5 + size) at (size + 6) (0 ∷ []) two new (omega arith) (omega arith) end told3.0 told3.1 images3 run)
+    pub third-within : {Last Failure : Type 0} (third : Result Last Failure) (new : DiskSeen) → Written one.contents (at + 5) payload two.contents
+        → Answers third (at + 5 + size) (0 ∷ []) two new → Images (at + 5 + size) (0 ∷ []) two new
+        → LeavesOnly two new (TornFrom (at + 5 + size) 1 two.image) → Within at size old new
+    third-within third new both told3 images3 run =
+        let end = subst (λ k. StartsWithin two.contents (at + 5 + k)) long (starts-behind one.contents two.contents (at + 5) payload behind both) in
+        within-run at (size + 6) old two new second-within
+        (within-stable third (at + 5 + size) at (size + 6) (0 ∷ []) two new (omega arith) (omega arith) end told3.0 told3.1 images3 run)

@@ -5,7 +5,7 @@ use Rattle.std.proofs.lemmas.Bool.{cases_eq}
 use Rattle.std.proofs.lemmas.Bool.Decides.{nat_tests}
 use Rattle.std.proofs.lemmas.List.{drop-drop, drop-take, drop_at, drop_more, get_or-drop, length-take}
 use Rattle.byteorder.specs.Endian.{little_bytes, little_number}
-use Rattle.byteorder.specs.Numbers.{length-bytes_low_first, little_from-take, little_number-reads_back}
+use Rattle.byteorder.specs.Numbers.{length-bytes_low_first, little_number-reads_back}
 use Rattle.hac_disk.specs.Images.{Torn, overlaid}
 use Rattle.hac_disk.proofs.TornLemmas.{torn-whole}
 use Rattle.hac_journal.proofs.CrashLemmas.{byte-same, front-less}

@@ -2,8 +2,9 @@
 use Rattle.std.proofs.Common.{◌≡◌, ℕ, ◌+◌, ◌-◌, ◌≤◌, List, length, drop, None, Some, Ok, Err, Result, OnOk, OnErr, refl, sym, ◌∙◌, ap, subst, arith}
 use Rattle.std.specs.declared.option.Option.{Option}
 use Rattle.std.proofs.lemmas.List.{drop-drop}
-use Rattle.hac_disk.specs.Images.{Elapses, Follows, IsQuiet, LeavesOnly, Only, Torn, TornFrom, overlaid}
-use Rattle.hac_disk.specs.Contents.{IsSettled, RangeWithin, StartsWithin, Written, WrittenInPart}
+use Rattle.hac_disk.specs.Images.{Elapses, Follows, IsQuiet, IsSettled, LeavesOnly, Torn, TornFrom, overlaid}
+use Rattle.hac_disk.specs.Seen.{DiskSeen, IsLawful}
+use Rattle.hac_disk.specs.Contents.{RangeWithin, StartsWithin, Written, WrittenInPart}
 use Rattle.hac_disk.proofs.Moments.{quiet_leaves, started, then_quiet, then_run, then_write, weaken}
 use Rattle.hac_disk.proofs.ContentsLemmas.{told-settled, told-written}
 use Rattle.hac_disk.proofs.TornLemmas.{torn-from, torn-none, torn-whole}
@@ -62,100 +63,89 @@ pub starts-head : (seen : Option (List ℕ)) (at : ℕ) → RangeWithin seen 0 6
 starts-head None at head low = tt
 starts-head (Some file) at head low = omega (arith, head, low)
 
--- a settled file that the disk tells
-record Told (P : List ℕ → Type 0) (seen : Option (List ℕ)) (image : List ℕ → Type 0) : Type 0 where
-  file : List ℕ
-  is : seen ≡ Some file
-  has : P file
-  only : Only file image
+abbrev Within : ℕ → ℕ → DiskSeen → DiskSeen → Type 0
+Within at n old new = WritesWithin at n old new
 
-told-with : (P : List ℕ → Type 0) (seen : Option (List ℕ)) (image : List ℕ → Type 0) → IsSettledWith P seen image → Told P seen image
-told-with P None image settled = absurd settled
-told-with P (Some file) image settled = record { file = file; is = refl; has = settled.0; only = settled.1 }
-
-module _ {D : Type 0} (seen : D → Option (List ℕ)) (image : D → List ℕ → Type 0) (moment : D → ℕ) (image_since : D → ℕ → List ℕ → Type 0) where
-  abbrev Within : ℕ → ℕ → D → D → Type 0
-  Within at n old new = WritesWithin seen image moment image_since at n old new
-
-  pub within-run : (at n : ℕ) (old mid new : D) → Within at n old mid → Within at n mid new → Within at n old new
-  within-run at n old mid new first second =
-      let joined : (c : List ℕ) → TornFrom at n (image mid) c → TornFrom at n (image old) c =
-      λ c torn. let from = first.images torn.0 torn.1 in (from.0, from.1, torn-twice at n from.0 torn.0 c from.2 torn.2) in
-      record {
-        in_part = told-twice (seen old) (seen mid) (seen new) at n first.in_part second.in_part;
-        images = λ c left. joined c (second.images c left);
-        any_moment = then_run moment image_since old mid new (TornFrom at n (image old)) first.any_moment
-            (weaken moment image_since mid new (TornFrom at n (image mid)) (TornFrom at n (image old)) joined second.any_moment);
-      }
-
-  -- one write in that part that is synced
-  pub within-stable : {T E : Type 0} (result : Result T E) (a at n : ℕ) (bytes : List ℕ) (old new : D) → at ≤ a → a + length bytes ≤ at + n → StartsWithin (seen old) a
-      → OnOk result (Written (seen old) a bytes (seen new)) → OnErr result (WrittenInPart (seen old) a (length bytes) (seen new))
-      → Follows (Torn a (length bytes)) (image old) (image new) → LeavesOnly moment image_since old new (TornFrom a (length bytes) (image old))
-      → Within at n old new
-  within-stable result a at n bytes old new low high starts written in_part images run =
-      let wider : (c : List ℕ) → TornFrom a (length bytes) (image old) c → TornFrom at n (image old) c =
-      λ c torn. (torn.0, torn.1, torn-wider a (length bytes) at n torn.0 c low high torn.2) in
-      record {
-        in_part = told-wider (seen old) (seen new) a (length bytes) at n low high (told-write result (seen old) (seen new) a bytes starts written in_part);
-        images = λ c left. wider c (images c left);
-        any_moment = weaken moment image_since old new (TornFrom a (length bytes) (image old)) (TornFrom at n (image old)) wider run;
-      }
-
-  -- what one such write makes of a settled file
-  pub stable-leaves : (P Q : List ℕ → Type 0) (at n : ℕ) (old new : D) → IsSettledWith P (seen old) (image old)
-      → ((file c : List ℕ) → seen old ≡ Some file → P file → Torn at n file c → Q c)
-      → LeavesOnly moment image_since old new (TornFrom at n (image old)) → LeavesOnly moment image_since old new Q
-  stable-leaves P Q at n old new settled each run =
-      let told = told-with P (seen old) (image old) settled in
-      weaken moment image_since old new (TornFrom at n (image old)) Q
-      (λ c torn. each told.file c told.is told.has (subst (λ f. Torn at n f c) (told.only torn.0 torn.1) torn.2)) run
-
-  pub stable-settles : {T E : Type 0} (result : Result T E) (P Q : List ℕ → Type 0) (at : ℕ) (bytes : List ℕ) (old new : D) → IsSettledWith P (seen old) (image old)
-      → ((file : List ℕ) → seen old ≡ Some file → P file → Q (overlaid at bytes file))
-      → OnOk result (Written (seen old) at bytes (seen new)) → OnOk result (IsSettled (seen new) (image new))
-      → OnOk result (IsSettledWith Q (seen new) (image new))
-  stable-settles (Err e) P Q at bytes old new settled each written synced = tt
-  stable-settles (Ok u) P Q at bytes old new settled each written synced =
-      let told = told-with P (seen old) (image old) settled in
-      let now = told-written (seen old) (seen new) told.file bytes at told.is written in
-      let only = told-settled (seen new) (overlaid at bytes told.file) (image new) now synced in
-      subst (λ s. IsSettledWith Q s (image new)) (sym now) (each told.file told.is told.has, only)
-
-  -- a quiet call keeps a settled file
-  pub quiet-settled : (P : List ℕ → Type 0) (old new : D) → IsSettledWith P (seen old) (image old)
-      → IsQuiet seen image moment image_since old new → IsSettledWith P (seen new) (image new)
-  quiet-settled P old new settled quiet =
-      let told = told-with P (seen old) (image old) settled in
-      subst (λ s. IsSettledWith P s (image new)) (sym (quiet.same ∙ told.is)) (told.has, λ c left. told.only c (quiet.images c left))
-
-  module _ (only_now : (disk : D) (c : List ℕ) → image_since disk (moment disk) c → image disk c) where
-    within-none : (at n : ℕ) (disk : D) → Within at n disk disk
-    within-none at n disk = record {
-      in_part = told-none (seen disk) at n;
-      images = λ c left. torn-from at n (image disk) c left;
-      any_moment = started moment image_since disk (TornFrom at n (image disk)) (λ c since. torn-from at n (image disk) c (only_now disk c since));
+pub within-run : (at n : ℕ) (old mid new : DiskSeen) → Within at n old mid → Within at n mid new → Within at n old new
+within-run at n old mid new first second =
+    let joined : (c : List ℕ) → TornFrom at n mid.image c → TornFrom at n old.image c =
+    λ c torn. let from = first.images torn.0 torn.1 in (from.0, from.1, torn-twice at n from.0 torn.0 c from.2 torn.2) in
+    record {
+      in_part = told-twice old.contents mid.contents new.contents at n first.in_part second.in_part;
+      images = λ c left. joined c (second.images c left);
+      any_moment = then_run old mid new (TornFrom at n old.image) first.any_moment
+          (weaken mid new (TornFrom at n mid.image) (TornFrom at n old.image) joined second.any_moment);
     }
 
-    pub within-quiet : (at n : ℕ) (old new : D) → IsQuiet seen image moment image_since old new → Within at n old new
-    within-quiet at n old new quiet = record {
-      in_part = subst (WrittenInPart (seen old) at n) (sym quiet.same) (told-none (seen old) at n);
-      images = λ c left. torn-from at n (image old) c (quiet.images c left);
-      any_moment = then_quiet moment image_since seen image old old new (TornFrom at n (image old)) (within-none at n old).any_moment quiet;
+-- one write in that part that is synced
+pub within-stable : {T E : Type 0} (result : Result T E) (a at n : ℕ) (bytes : List ℕ) (old new : DiskSeen) → at ≤ a → a + length bytes ≤ at + n → StartsWithin old.contents a
+    → OnOk result (Written old.contents a bytes new.contents) → OnErr result (WrittenInPart old.contents a (length bytes) new.contents)
+    → Follows (Torn a (length bytes)) old.image new.image → LeavesOnly old new (TornFrom a (length bytes) old.image)
+    → Within at n old new
+within-stable result a at n bytes old new low high starts written in_part images run =
+    let wider : (c : List ℕ) → TornFrom a (length bytes) old.image c → TornFrom at n old.image c =
+    λ c torn. (torn.0, torn.1, torn-wider a (length bytes) at n torn.0 c low high torn.2) in
+    record {
+      in_part = told-wider old.contents new.contents a (length bytes) at n low high (told-write result old.contents new.contents a bytes starts written in_part);
+      images = λ c left. wider c (images c left);
+      any_moment = weaken old new (TornFrom a (length bytes) old.image) (TornFrom at n old.image) wider run;
     }
 
-    -- one write in that part that isn't synced
-    pub within-write : {T E : Type 0} (result : Result T E) (a at n : ℕ) (bytes : List ℕ) (old new : D) → at ≤ a → a + length bytes ≤ at + n → StartsWithin (seen old) a
-        → OnOk result (Written (seen old) a bytes (seen new)) → OnErr result (WrittenInPart (seen old) a (length bytes) (seen new))
-        → Follows (Torn a (length bytes)) (image old) (image new)
-        → Elapses (moment old) (moment new) (image_since old) (image_since new) (image new) → Within at n old new
-    within-write result a at n bytes old new low high starts written in_part images time =
-        within-stable result a at n bytes old new low high starts written in_part images
-        (then_write moment image_since old old new (TornFrom a (length bytes) (image old)) (image new) (within-none a (length bytes) old).any_moment time images)
+-- what one such write makes of a settled file
+pub stable-leaves : (P Q : List ℕ → Type 0) (at n : ℕ) (old new : DiskSeen) → IsSettledWith P old
+    → ((file c : List ℕ) → old.contents ≡ Some file → P file → Torn at n file c → Q c)
+    → LeavesOnly old new (TornFrom at n old.image) → LeavesOnly old new Q
+stable-leaves P Q at n old new settled each run =
+    weaken old new (TornFrom at n old.image) Q
+    (λ c torn. each settled.file c settled.is settled.has (subst (λ f. Torn at n f c) (settled.only torn.0 torn.1) torn.2)) run
 
-    -- while a settled file is only read, a crash leaves it
-    pub quiet-leaves : (P : List ℕ → Type 0) (old new : D) → IsSettledWith P (seen old) (image old)
-        → IsQuiet seen image moment image_since old new → LeavesOnly moment image_since old new P
-    quiet-leaves P old new settled quiet =
-        let told = told-with P (seen old) (image old) settled in
-        quiet_leaves moment image_since seen image old new P (λ c since. subst P (sym (told.only c (only_now old c since))) told.has) quiet
+pub stable-settles : {T E : Type 0} (result : Result T E) (P Q : List ℕ → Type 0) (at : ℕ) (bytes : List ℕ) (old new : DiskSeen) → IsSettledWith P old
+    → ((file : List ℕ) → old.contents ≡ Some file → P file → Q (overlaid at bytes file))
+    → OnOk result (Written old.contents at bytes new.contents) → OnOk result (IsSettled new)
+    → OnOk result (IsSettledWith Q new)
+stable-settles (Err e) P Q at bytes old new settled each written synced = tt
+stable-settles (Ok u) P Q at bytes old new settled each written synced =
+    let now = told-written old.contents new.contents settled.file bytes at settled.is written in
+    record {
+      file = overlaid at bytes settled.file;
+      is = now;
+      has = each settled.file settled.is settled.has;
+      only = told-settled new (overlaid at bytes settled.file) now synced;
+    }
+
+-- a quiet call keeps a settled file
+pub quiet-settled : (P : List ℕ → Type 0) (old new : DiskSeen) → IsSettledWith P old → IsQuiet old new → IsSettledWith P new
+quiet-settled P old new settled quiet = record {
+  file = settled.file;
+  is = quiet.same ∙ settled.is;
+  has = settled.has;
+  only = λ c left. settled.only c (quiet.images c left);
+}
+
+within-none : (at n : ℕ) (disk : DiskSeen) → IsLawful disk → Within at n disk disk
+within-none at n disk lawful = record {
+  in_part = told-none disk.contents at n;
+  images = λ c left. torn-from at n disk.image c left;
+  any_moment = started disk (TornFrom at n disk.image) (λ c since. torn-from at n disk.image c (lawful.only_now c since));
+}
+
+pub within-quiet : (at n : ℕ) (old new : DiskSeen) → IsLawful old → IsQuiet old new → Within at n old new
+within-quiet at n old new lawful quiet = record {
+  in_part = subst (WrittenInPart old.contents at n) (sym quiet.same) (told-none old.contents at n);
+  images = λ c left. torn-from at n old.image c (quiet.images c left);
+  any_moment = then_quiet old old new (TornFrom at n old.image) (within-none at n old lawful).any_moment quiet;
+}
+
+-- one write in that part that isn't synced
+pub within-write : {T E : Type 0} (result : Result T E) (a at n : ℕ) (bytes : List ℕ) (old new : DiskSeen) → IsLawful old → at ≤ a → a + length bytes ≤ at + n → StartsWithin old.contents a
+    → OnOk result (Written old.contents a bytes new.contents) → OnErr result (WrittenInPart old.contents a (length bytes) new.contents)
+    → Follows (Torn a (length bytes)) old.image new.image
+    → Elapses old new → Within at n old new
+within-write result a at n bytes old new lawful low high starts written in_part images time =
+    within-stable result a at n bytes old new low high starts written in_part images
+    (then_write old old new (TornFrom a (length bytes) old.image) (within-none a (length bytes) old lawful).any_moment time images)
+
+-- while a settled file is only read, a crash leaves it
+pub quiet-leaves : (P : List ℕ → Type 0) (old new : DiskSeen) → IsLawful old → IsSettledWith P old → IsQuiet old new → LeavesOnly old new P
+quiet-leaves P old new lawful settled quiet =
+    quiet_leaves old new P (λ c since. subst P (sym (settled.only c (lawful.only_now c since))) settled.has) quiet

@@ -1,5 +1,5 @@
 -- The root of a store: which of its two slots counts, and where the live area begins.
-use Rattle.std.specs.Prelude.{◌≡◌, ℕ, suc, ◌+◌, nat_le, nat_lt, ◌==◌, if◌then◌else◌, ⊤, List, [], ◌∷◌, length, take, drop, slice_index, codes, Bool, Result, Ok, Err, Some, None}
+use Rattle.std.specs.Prelude.{◌≡◌, ℕ, suc, ◌+◌, nat_le, nat_lt, ◌==◌, if◌then◌else◌, ⊤, List, [], ◌∷◌, length, take, drop, slice_index, codes, Bool, true, false, Result, Ok, Err, Some, None}
 use Rattle.std.specs.declared.option.Option.{Option}
 use Rattle.byteorder.specs.Endian.{little_number}
 use Rattle.hac_checkpoint.specs.declared.heads.Root.{Root}
@@ -77,6 +77,11 @@ abbrev pub IsRootOf : Result Root RootFault → List ℕ → Type 0
 IsRootOf (Ok root) file = root_of file ≡ Ok root
 IsRootOf (Err (Bad at)) file = placed file (root_of file) ≡ Err at
 IsRootOf (Err Disk) file = ⊤
+
+-- the answer says that a call of the disk failed
+abbrev pub is_disk_fault : Result Root RootFault → Bool
+is_disk_fault (Err Disk) = true
+is_disk_fault other = false
 
 -- so it is, if the disk tells its bytes
 abbrev pub IsRootSeen : Result Root RootFault → Option (List ℕ) → Type 0

@@ -3,7 +3,8 @@
 ghost use Rattle.std.specs.Prelude.{◌≡◌, ◌+◌, ◌<◌, ◌∷◌, ◌^◌, nat_le, IfOk, OnOk, length};
 ghost use Rattle.byteorder.specs.Endian.{little_bytes};
 ghost use Rattle.hac_outside.specs.Causes.{HasCause};
-ghost use Rattle.hac_disk.specs.Contents.{HasByteAt, IsSettled, StartsWithin, Written};
+ghost use Rattle.hac_disk.specs.Contents.{HasByteAt, StartsWithin, Written};
+ghost use Rattle.hac_disk.specs.Images.{IsSettled};
 ghost use Rattle.hac_checkpoint.specs.Areas.{area_of, place_for};
 ghost use Rattle.hac_checkpoint.specs.Writes.{WritesWithin};
 
@@ -47,18 +48,18 @@ fn ends_within(limit: u64, at: u64, payload: u64) -> bool
 /// Writes an area with one record, and answers the place of its closed gate. It takes no memory. No
 /// root leads to the area yet, so its first gate is written open.
 pub fn write_area<D: Disk>(disk: &mut D, at: u64, payload: &[u8]) -> Result<u64, Failed>
-    requires place { StartsWithin (D.seen disk.old) at }
+    requires place { StartsWithin (D.seen disk.old).contents at }
     requires size { length payload.now < 2 ^ 32 }
     requires room { at + 6 + length payload.now < 2 ^ 64 }
     ensures end { IfOk result (λ end. end ≡ at + 5 + length payload.now) }
     ensures written { OnOk result
-        (Written (D.seen disk.old) at (area_of payload.now) (D.seen disk.new)) }
-    ensures settled { OnOk result (IsSettled (D.seen disk.new) (D.image disk.new)) }
-    ensures gate { IfOk result (λ end. HasByteAt (D.seen disk.new) end) }
-    ensures elsewhere { WritesWithin D.seen D.image D.moment D.image_since
-        at (length payload.now + 6) disk.old disk.new }
-    ensures attached { D.attached disk.new ≡ D.attached disk.old }
-    ensures cause { HasCause (D.faults disk.old) (D.faults disk.new) result }
+        (Written (D.seen disk.old).contents at (area_of payload.now) (D.seen disk.new).contents) }
+    ensures settled { OnOk result (IsSettled (D.seen disk.new)) }
+    ensures gate { IfOk result (λ end. HasByteAt (D.seen disk.new).contents end) }
+    ensures elsewhere { WritesWithin at (length payload.now + 6) (D.seen disk.old)
+        (D.seen disk.new) }
+    ensures attached { (D.seen disk.new).attached ≡ (D.seen disk.old).attached }
+    ensures cause { HasCause (D.seen disk.old).faults (D.seen disk.new).faults result }
 {
     let head = record_head(payload.len() as u32);
     let end = at + 5 + payload.len() as u64;

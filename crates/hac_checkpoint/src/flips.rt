@@ -32,19 +32,19 @@ impl Slot {
 /// at `start`. Its gate is closed first, where it is open. A gate that is closed isn't written: the
 /// write might be torn and open it before what was in the slot.
 pub fn close_and_fill<D: Disk>(disk: &mut D, live: Root, start: u64) -> Result<(), Failed>
-    requires head { RangeWithin (D.seen disk.old) 0 64 }
+    requires head { RangeWithin (D.seen disk.old).contents 0 64 }
     requires generation { live.generation < 2 ^ 64 - 1 }
-    ensures filled { IsSettledWith (HasRoot live) (D.seen disk.old) (D.image disk.old) →
-        OnOk result (IsSettledWith (IsFilled live start) (D.seen disk.new) (D.image disk.new)) }
+    ensures filled { IsSettledWith (HasRoot live) (D.seen disk.old) →
+        OnOk result (IsSettledWith (IsFilled live start) (D.seen disk.new)) }
 
     // At each moment a crash leaves the live root.
-    ensures any_moment { IsSettledWith (HasRoot live) (D.seen disk.old) (D.image disk.old) →
-        LeavesOnly D.moment D.image_since disk.old disk.new (HasRoot live) }
+    ensures any_moment { IsSettledWith (HasRoot live) (D.seen disk.old) →
+        LeavesOnly (D.seen disk.old) (D.seen disk.new) (HasRoot live) }
 
-    ensures elsewhere { WritesWithin D.seen D.image D.moment D.image_since
-        (gate_of (other_slot live.slot)) 17 disk.old disk.new }
-    ensures attached { D.attached disk.new ≡ D.attached disk.old }
-    ensures cause { HasCause (D.faults disk.old) (D.faults disk.new) result }
+    ensures elsewhere { WritesWithin (gate_of (other_slot live.slot)) 17 (D.seen disk.old)
+        (D.seen disk.new) }
+    ensures attached { (D.seen disk.new).attached ≡ (D.seen disk.old).attached }
+    ensures cause { HasCause (D.seen disk.old).faults (D.seen disk.new).faults result }
 {
     close_spare(disk, live)?;
     fill_spare(disk, live, start)
@@ -52,15 +52,15 @@ pub fn close_and_fill<D: Disk>(disk: &mut D, live: Root, start: u64) -> Result<(
 
 // Closes the slot that doesn't count, where it is open.
 fn close_spare<D: Disk>(disk: &mut D, live: Root) -> Result<(), Failed>
-    requires { RangeWithin (D.seen disk.old) 0 64 }
-    ensures closed { IsSettledWith (HasRoot live) (D.seen disk.old) (D.image disk.old) →
-        OnOk result (IsSettledWith (HasSpareSlot live) (D.seen disk.new) (D.image disk.new)) }
-    ensures any_moment { IsSettledWith (HasRoot live) (D.seen disk.old) (D.image disk.old) →
-        LeavesOnly D.moment D.image_since disk.old disk.new (HasRoot live) }
-    ensures elsewhere { WritesWithin D.seen D.image D.moment D.image_since
-        (gate_of (other_slot live.slot)) 17 disk.old disk.new }
-    ensures attached { D.attached disk.new ≡ D.attached disk.old }
-    ensures cause { HasCause (D.faults disk.old) (D.faults disk.new) result }
+    requires { RangeWithin (D.seen disk.old).contents 0 64 }
+    ensures closed { IsSettledWith (HasRoot live) (D.seen disk.old) →
+        OnOk result (IsSettledWith (HasSpareSlot live) (D.seen disk.new)) }
+    ensures any_moment { IsSettledWith (HasRoot live) (D.seen disk.old) →
+        LeavesOnly (D.seen disk.old) (D.seen disk.new) (HasRoot live) }
+    ensures elsewhere { WritesWithin (gate_of (other_slot live.slot)) 17 (D.seen disk.old)
+        (D.seen disk.new) }
+    ensures attached { (D.seen disk.new).attached ≡ (D.seen disk.old).attached }
+    ensures cause { HasCause (D.seen disk.old).faults (D.seen disk.new).faults result }
 {
     let slot = live.slot.other();
     if !reads_open(disk, slot)? {
@@ -71,12 +71,12 @@ fn close_spare<D: Disk>(disk: &mut D, live: Root) -> Result<(), Failed>
 
 // Whether the gate of a slot is open.
 fn reads_open<D: Disk>(disk: &mut D, slot: Slot) -> Result<bool, Failed>
-    requires { RangeWithin (D.seen disk.old) 0 64 }
+    requires { RangeWithin (D.seen disk.old).contents 0 64 }
     ensures gate { IfOk result (λ gate.
-        IfSome (D.seen disk.old) (λ file. gate ≡ is_open slot file)) }
-    ensures quiet { IsQuiet D.seen D.image D.moment D.image_since disk.old disk.new }
-    ensures attached { D.attached disk.new ≡ D.attached disk.old }
-    ensures cause { HasCause (D.faults disk.old) (D.faults disk.new) result }
+        IfSome (D.seen disk.old).contents (λ file. gate ≡ is_open slot file)) }
+    ensures quiet { IsQuiet (D.seen disk.old) (D.seen disk.new) }
+    ensures attached { (D.seen disk.new).attached ≡ (D.seen disk.old).attached }
+    ensures cause { HasCause (D.seen disk.old).faults (D.seen disk.new).faults result }
 {
     let mut gate = [CLOSED];
     disk.read_at(gate_place(slot) as u64, &mut gate)?;
@@ -85,16 +85,16 @@ fn reads_open<D: Disk>(disk: &mut D, slot: Slot) -> Result<bool, Failed>
 
 // Writes the next root into the slot that doesn't count, behind its gate.
 fn fill_spare<D: Disk>(disk: &mut D, live: Root, start: u64) -> Result<(), Failed>
-    requires head { RangeWithin (D.seen disk.old) 0 64 }
+    requires head { RangeWithin (D.seen disk.old).contents 0 64 }
     requires generation { live.generation < 2 ^ 64 - 1 }
-    ensures filled { IsSettledWith (HasSpareSlot live) (D.seen disk.old) (D.image disk.old) →
-        OnOk result (IsSettledWith (IsFilled live start) (D.seen disk.new) (D.image disk.new)) }
-    ensures any_moment { IsSettledWith (HasSpareSlot live) (D.seen disk.old) (D.image disk.old) →
-        LeavesOnly D.moment D.image_since disk.old disk.new (HasRoot live) }
-    ensures elsewhere { WritesWithin D.seen D.image D.moment D.image_since
-        (gate_of (other_slot live.slot)) 17 disk.old disk.new }
-    ensures attached { D.attached disk.new ≡ D.attached disk.old }
-    ensures cause { HasCause (D.faults disk.old) (D.faults disk.new) result }
+    ensures filled { IsSettledWith (HasSpareSlot live) (D.seen disk.old) →
+        OnOk result (IsSettledWith (IsFilled live start) (D.seen disk.new)) }
+    ensures any_moment { IsSettledWith (HasSpareSlot live) (D.seen disk.old) →
+        LeavesOnly (D.seen disk.old) (D.seen disk.new) (HasRoot live) }
+    ensures elsewhere { WritesWithin (gate_of (other_slot live.slot)) 17 (D.seen disk.old)
+        (D.seen disk.new) }
+    ensures attached { (D.seen disk.new).attached ≡ (D.seen disk.old).attached }
+    ensures cause { HasCause (D.seen disk.old).faults (D.seen disk.new).faults result }
 {
     let body = slot_body(live.generation + 1, start);
     write_stable(disk, gate_place(live.slot.other()) as u64 + 1, &body)
@@ -113,22 +113,21 @@ fn slot_body(generation: u64, start: u64) -> [u8; 16]
 /// The second half of a flip: the slot that `close_and_fill` filled is opened. From then on its
 /// root counts.
 pub fn open_root<D: Disk>(disk: &mut D, live: Root) -> Result<(), Failed>
-    requires { RangeWithin (D.seen disk.old) 0 64 }
+    requires { RangeWithin (D.seen disk.old).contents 0 64 }
     ensures opened { (start : ℕ) → 64 ≤ start →
-        IsSettledWith (IsFilled live start) (D.seen disk.old) (D.image disk.old) →
-        OnOk result (IsSettledWith (HasRoot (next_root live start))
-        (D.seen disk.new) (D.image disk.new)) }
+        IsSettledWith (IsFilled live start) (D.seen disk.old) →
+        OnOk result (IsSettledWith (HasRoot (next_root live start)) (D.seen disk.new)) }
 
     // At each moment a crash leaves the live root, or the next one.
     ensures any_moment { (start : ℕ) → 64 ≤ start →
-        IsSettledWith (IsFilled live start) (D.seen disk.old) (D.image disk.old) →
-        LeavesOnly D.moment D.image_since disk.old disk.new
+        IsSettledWith (IsFilled live start) (D.seen disk.old) →
+        LeavesOnly (D.seen disk.old) (D.seen disk.new)
         (λ c. HasRoot live c ⊎ HasRoot (next_root live start) c) }
 
-    ensures elsewhere { WritesWithin D.seen D.image D.moment D.image_since
-        (gate_of (other_slot live.slot)) 1 disk.old disk.new }
-    ensures attached { D.attached disk.new ≡ D.attached disk.old }
-    ensures cause { HasCause (D.faults disk.old) (D.faults disk.new) result }
+    ensures elsewhere { WritesWithin (gate_of (other_slot live.slot)) 1 (D.seen disk.old)
+        (D.seen disk.new) }
+    ensures attached { (D.seen disk.new).attached ≡ (D.seen disk.old).attached }
+    ensures cause { HasCause (D.seen disk.old).faults (D.seen disk.new).faults result }
 {
     write_stable(disk, gate_place(live.slot.other()) as u64, &[OPEN])
 }

@@ -1,12 +1,12 @@
 //! Which root counts. The head of a store is a gate, the format's name, and two slots, each with a
 //! gate, a generation and a start; all numbers are little-endian.
 ghost use Rattle.std.specs.Prelude.{◌≡◌, ◌+◌, ◌≤◌, ◌^◌, IfOk, drop, length};
-ghost use Rattle.hac_outside.specs.Causes.{HasCause, Rose};
+ghost use Rattle.hac_outside.specs.Causes.{HasCause, ReportsFault};
 ghost use Rattle.hac_disk.specs.Images.{IsQuiet};
 ghost use Rattle.hac_disk.specs.Contents.{RangeWithin};
 ghost use Rattle.hac_checkpoint.specs.Roots.{IsHeadRoot, IsRootSeen, agreeing, counting, gate_of};
 ghost use Rattle.hac_checkpoint.specs.Roots.{generation, higher, is_open, named, root_of, slots};
-ghost use Rattle.hac_checkpoint.specs.Roots.{start, store_name};
+ghost use Rattle.hac_checkpoint.specs.Roots.{is_disk_fault, start, store_name};
 
 use byteorder::{ByteOrder, LittleEndian};
 use hac_disk::Disk;
@@ -78,12 +78,11 @@ pub enum Stop {
 
 /// The root of a store. It reads the head of the file, and no more.
 pub fn roots<D: Disk>(disk: &mut D) -> Result<Root, RootFault>
-    ensures root { IsRootSeen result (D.seen disk.old) }
-    ensures quiet { IsQuiet D.seen D.image D.moment D.image_since disk.old disk.new }
-    ensures attached { D.attached disk.new ≡ D.attached disk.old }
-    ensures later { D.faults disk.old ≤ D.faults disk.new }
-    ensures cause { result ≡ Err RootFault.Disk → Rose (D.faults disk.old) (D.faults disk.new) }
-    ensures none { (result ≡ Err RootFault.Disk → ⊥) → D.faults disk.new ≡ D.faults disk.old }
+    ensures root { IsRootSeen result (D.seen disk.old).contents }
+    ensures quiet { IsQuiet (D.seen disk.old) (D.seen disk.new) }
+    ensures attached { (D.seen disk.new).attached ≡ (D.seen disk.old).attached }
+    ensures faults { ReportsFault (is_disk_fault result) (D.seen disk.old).faults
+        (D.seen disk.new).faults }
 {
     let len = disk.len()?;
     let mut head = [0; HEAD];
@@ -97,11 +96,12 @@ pub fn roots<D: Disk>(disk: &mut D) -> Result<Root, RootFault>
 
 // Fills the bytes from the beginning of the file, and gives the root that they decide.
 fn read_root<D: Disk>(disk: &mut D, head: &mut [u8]) -> Result<Result<Root, Stop>, Failed>
-    requires { RangeWithin (D.seen disk.old) 0 (length head.old) }
-    ensures root { IfOk result (λ root. IsHeadRoot root (length head.old) (D.seen disk.old)) }
-    ensures quiet { IsQuiet D.seen D.image D.moment D.image_since disk.old disk.new }
-    ensures attached { D.attached disk.new ≡ D.attached disk.old }
-    ensures cause { HasCause (D.faults disk.old) (D.faults disk.new) result }
+    requires { RangeWithin (D.seen disk.old).contents 0 (length head.old) }
+    ensures root { IfOk result (λ root. IsHeadRoot root (length head.old)
+        (D.seen disk.old).contents) }
+    ensures quiet { IsQuiet (D.seen disk.old) (D.seen disk.new) }
+    ensures attached { (D.seen disk.new).attached ≡ (D.seen disk.old).attached }
+    ensures cause { HasCause (D.seen disk.old).faults (D.seen disk.new).faults result }
 {
     disk.read_at(0, head)?;
     Ok(root_in(head))

@@ -1,8 +1,9 @@
 -- Facts about the bytes of a disk that may tell nothing.
 use Rattle.std.proofs.Common.{◌≡◌, List, ℕ, None, Some, IfSome, refl, subst}
 use Rattle.std.specs.declared.option.Option.{Option}
-use Rattle.hac_disk.specs.Images.{Only, overlaid}
-use Rattle.hac_disk.specs.Contents.{IsSettled, Written}
+use Rattle.hac_disk.specs.Contents.{Written}
+use Rattle.hac_disk.specs.Images.{IsSettled, Only, overlaid}
+use Rattle.hac_disk.specs.Seen.{DiskSeen}
 
 -- a fact that follows from each file that the disk may tell
 pub if_known : (seen : Option (List ℕ)) (P : Type 0) → ((file : List ℕ) → seen ≡ Some file → P) → IfSome seen (λ _. P)
@@ -14,5 +15,5 @@ pub told-written : (seen new : Option (List ℕ)) (file bytes : List ℕ) (at : 
 told-written seen new file bytes at is written = subst (λ s. Written s at bytes new) is written
 
 -- a settled file is the only image
-pub told-settled : (seen : Option (List ℕ)) (file : List ℕ) (image : List ℕ → Type 0) → seen ≡ Some file → IsSettled seen image → Only file image
-told-settled seen file image is settled = subst (λ s. IsSettled s image) is settled
+pub told-settled : (disk : DiskSeen) (file : List ℕ) → disk.contents ≡ Some file → IsSettled disk → Only file disk.image
+told-settled disk file is settled = subst (λ s. IfSome s (λ f. Only f disk.image)) is settled

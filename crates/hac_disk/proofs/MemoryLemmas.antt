@@ -2,7 +2,7 @@
 use Rattle.std.proofs.Common.{◌≡◌, inl, inr, ⊎_elim, ℕ, suc, ◌-◌, ◌≤◌, Bool, List, [], ◌∷◌, ◌++◌, length, reverse, Some, refl, sym, ◌∙◌, ap, subst, arith, length-append}
 use Rattle.std.proofs.lemmas.List.{take_at, drop_at, reverse-append}
 use Rattle.hac_disk.specs.Images.{Torn, Follows, Elapses, IsQuiet}
-use Rattle.hac_disk.specs.Memory.{Call, Wrote, Synced, Attached, DiskState, file_after, Image, ImageSince, bytes_of_disk, left_after, moment_of, left_since}
+use Rattle.hac_disk.specs.Memory.{Call, Wrote, Synced, Attached, DiskState, file_after, Image, ImageSince, seen_of}
 use Rattle.hac_disk.specs.MemoryLaws.{seen_is_image, image_counts_now}
 use Rattle.hac_disk.specs.Kept.{front, back, calls_of}
 use Rattle.hac_disk.specs.declared.memory.Step.{Step}
@@ -49,13 +49,13 @@ quiet-step : (first : List ℕ) (older : List Call) (call : Call) (t : ℕ) (c :
 quiet-step first older call t c images le since = ⊎_elim (λ now. image_counts_now first older t c le (images c now)) (λ past. past.1) since
 
 module _ (old new : DiskState) (call : Call) (first : new.first ≡ old.first) (done : new.done ≡ call ∷ old.done) where
-  same-image : (c : List ℕ) → left_after new c → Image old.first (call ∷ old.done) c
+  same-image : (c : List ℕ) → (seen_of new).image c → Image old.first (call ∷ old.done) c
   same-image c left = rw (first, done) at left
 
-  same-since : (t : ℕ) (c : List ℕ) → left_since new t c → ImageSince old.first (call ∷ old.done) t c
+  same-since : (t : ℕ) (c : List ℕ) → (seen_of new).image_since t c → ImageSince old.first (call ∷ old.done) t c
   same-since t c left = rw (first, done) at left
 
-  back-since : (t : ℕ) (c : List ℕ) → ImageSince old.first (call ∷ old.done) t c → left_since new t c
+  back-since : (t : ℕ) (c : List ℕ) → ImageSince old.first (call ∷ old.done) t c → (seen_of new).image_since t c
   back-since t c left = rw (first, done) left
 
   count : length new.done ≡ suc (length old.done)
@@ -63,7 +63,7 @@ module _ (old new : DiskState) (call : Call) (first : new.first ≡ old.first) (
 
   quiet-call : file_after old.first (call ∷ old.done) ≡ file_after old.first old.done
       → ((i : List ℕ) → Image old.first (call ∷ old.done) i → Image old.first old.done i)
-      → IsQuiet bytes_of_disk left_after moment_of left_since old new
+      → IsQuiet (seen_of old) (seen_of new)
   quiet-call same images = record {
     same = rw (first, done) (ap (λ (f : List ℕ). Some f) same);
     images = λ c left. images c (same-image c left);
@@ -72,22 +72,22 @@ module _ (old new : DiskState) (call : Call) (first : new.first ≡ old.first) (
     keeps = λ t c le left. back-since t c (inr (le, left));
   }
 
-  pub write-time : Elapses (moment_of old) (moment_of new) (left_since old) (left_since new) (left_after new)
+  pub write-time : Elapses (seen_of old) (seen_of new)
   write-time = record {
     later = omega (arith, count);
     nothing_else = λ t c le left. ⊎_elim (λ now. inr (rw (first, done) now)) (λ past. inl past.1) (same-since t c left);
     keeps = λ t c le left. back-since t c (inr (le, left));
   }
 
-pub quiet-sync : (old new : DiskState) → new.first ≡ old.first → new.done ≡ Synced ∷ old.done → IsQuiet bytes_of_disk left_after moment_of left_since old new
+pub quiet-sync : (old new : DiskState) → new.first ≡ old.first → new.done ≡ Synced ∷ old.done → IsQuiet (seen_of old) (seen_of new)
 quiet-sync old new first done =
     quiet-call old new Synced first done refl (λ i is. subst (Image old.first old.done) (sym is) (seen_is_image old.first old.done))
 
-pub quiet-attach : (old new : DiskState) (name : List ℕ) (make : Bool) → new.first ≡ old.first → new.done ≡ Attached name make ∷ old.done → IsQuiet bytes_of_disk left_after moment_of left_since old new
+pub quiet-attach : (old new : DiskState) (name : List ℕ) (make : Bool) → new.first ≡ old.first → new.done ≡ Attached name make ∷ old.done → IsQuiet (seen_of old) (seen_of new)
 quiet-attach old new name make first done = quiet-call old new (Attached name make) first done refl (λ i left. left)
 
 pub write-images : (old new : DiskState) (at : ℕ) (bytes : List ℕ) → at ≤ length (file_after old.first old.done) → new.first ≡ old.first → new.done ≡ Wrote at bytes ∷ old.done
-    → Follows (Torn at (length bytes)) (left_after old) (left_after new)
+    → Follows (Torn at (length bytes)) (seen_of old).image (seen_of new).image
 write-images old new at bytes starts first done c left =
     let file = file_after old.first old.done in
     ⊎_elim

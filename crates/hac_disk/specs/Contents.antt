@@ -1,7 +1,7 @@
 -- Facts about the bytes of a disk that tells them. Of one that doesn't, there is nothing to show.
 use Rattle.std.specs.Prelude.{◌≡◌, ℕ, ◌+◌, ◌<◌, ◌≤◌, ⊤, Bool, List, [], ◌∷◌, ◌++◌, length, take, drop, None, Some, Ok, Err, Result}
 use Rattle.std.specs.declared.option.Option.{Option}
-use Rattle.hac_disk.specs.Images.{overlaid, Torn, Only}
+use Rattle.hac_disk.specs.Images.{overlaid, Torn}
 
 -- the n bytes from this place on lie within the file
 abbrev pub RangeWithin : Option (List ℕ) → ℕ → ℕ → Type 0
@@ -38,11 +38,6 @@ abbrev pub WrittenInPart : Option (List ℕ) → ℕ → ℕ → Option (List �
 WrittenInPart None at n new = new ≡ None
 WrittenInPart (Some old) at n None = ⊥
 WrittenInPart (Some old) at n (Some new) = Torn at n old new
-
--- nothing is pending: a crash leaves what a read gives
-abbrev pub IsSettled : Option (List ℕ) → (List ℕ → Type 0) → Type 0
-IsSettled None image = ⊤
-IsSettled (Some file) image = Only file image
 
 -- the names that were attached grew by this one, if that went well
 abbrev pub Attaches : {E : Type 0} → Option (List (List ℕ × Bool)) → List ℕ → Bool → Result Unit E → Option (List (List ℕ × Bool)) → Type 0

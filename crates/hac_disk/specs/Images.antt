@@ -1,6 +1,7 @@
 -- What a crash may leave of a file between two syncs, now and at each moment since an earlier one.
+use Rattle.std.specs.Option.{IfSome}
 use Rattle.std.specs.Prelude.{◌≡◌, ◌⊎◌, ℕ, ◌+◌, ◌≤◌, max, List, ◌++◌, length, take, drop}
-use Rattle.std.specs.declared.option.Option.{Option}
+use Rattle.hac_disk.specs.Seen.{DiskSeen}
 
 -- the file with these bytes written at this place: over what was there, and past its end
 abbrev pub overlaid : ℕ → List ℕ → List ℕ → List ℕ
@@ -26,22 +27,26 @@ abbrev pub Only : List ℕ → (List ℕ → Type 0) → Type 0
 Only file image = (c : List ℕ) → image c → c ≡ file
 
 -- time goes on: a crash since t might have left what it might have left before, or what it may leave now
-pub record Elapses (before now : ℕ) (past since : ℕ → List ℕ → Type 0) (image : List ℕ → Type 0) : Type 0 where
-  pub later : before ≤ now
-  pub nothing_else : (t : ℕ) (c : List ℕ) → t ≤ before → since t c → past t c ⊎ image c
-  pub keeps : (t : ℕ) (c : List ℕ) → t ≤ before → past t c → since t c
+pub record Elapses (old new : DiskSeen) : Type 0 where
+  pub later : old.moment ≤ new.moment
+  pub nothing_else : (t : ℕ) (c : List ℕ) → t ≤ old.moment → new.image_since t c → old.image_since t c ⊎ new.image c
+  pub keeps : (t : ℕ) (c : List ℕ) → t ≤ old.moment → old.image_since t c → new.image_since t c
 
 -- nothing was written: a read gives what it gave before, and no crash since might have left anything else
-pub record IsQuiet {D : Type 0} (seen : D → Option (List ℕ)) (image : D → List ℕ → Type 0) (moment : D → ℕ) (image_since : D → ℕ → List ℕ → Type 0) (old new : D) : Type 0 where
-  pub same : seen new ≡ seen old
-  pub images : (c : List ℕ) → image new c → image old c
-  pub later : moment old ≤ moment new
-  pub past : (t : ℕ) (c : List ℕ) → t ≤ moment old → image_since new t c → image_since old t c
-  pub keeps : (t : ℕ) (c : List ℕ) → t ≤ moment old → image_since old t c → image_since new t c
+pub record IsQuiet (old new : DiskSeen) : Type 0 where
+  pub same : new.contents ≡ old.contents
+  pub images : (c : List ℕ) → new.image c → old.image c
+  pub later : old.moment ≤ new.moment
+  pub past : (t : ℕ) (c : List ℕ) → t ≤ old.moment → new.image_since t c → old.image_since t c
+  pub keeps : (t : ℕ) (c : List ℕ) → t ≤ old.moment → old.image_since t c → new.image_since t c
 
 -- a crash at any moment since old leaves an image that has P
-pub record LeavesOnly {D : Type 0} (moment : D → ℕ) (image_since : D → ℕ → List ℕ → Type 0) (old new : D) (P : List ℕ → Type 0) : Type 0 where
-  pub later : moment old ≤ moment new
-  pub each : (c : List ℕ) → image_since new (moment old) c → P c
+pub record LeavesOnly (old new : DiskSeen) (P : List ℕ → Type 0) : Type 0 where
+  pub later : old.moment ≤ new.moment
+  pub each : (c : List ℕ) → new.image_since old.moment c → P c
   -- for a run that began earlier
-  pub before : (t : ℕ) (c : List ℕ) → t ≤ moment old → image_since new t c → image_since old t c ⊎ P c
+  pub before : (t : ℕ) (c : List ℕ) → t ≤ old.moment → new.image_since t c → old.image_since t c ⊎ P c
+
+-- nothing is pending: a crash leaves what a read gives
+abbrev pub IsSettled : DiskSeen → Type 0
+IsSettled disk = IfSome disk.contents (λ file. Only file disk.image)

@@ -4,5 +4,6 @@ pub mod Kept
 pub mod Memory
 pub mod MemoryLaws
 pub mod Parts
+pub mod Seen
 pub mod Contents
 pub mod Unknown

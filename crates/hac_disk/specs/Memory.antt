@@ -1,8 +1,8 @@
 -- What a disk in memory is seen as: the file as it was at first, and the calls since.
 use Rattle.std.specs.Prelude.{◌≡◌, ◌⊎◌, ℕ, ◌+◌, ◌<◌, ◌≤◌, Bool, List, [], ◌∷◌, ◌++◌, length, Some, Result, Ok, Err, is_ok, if◌then◌else◌}
-use Rattle.std.specs.declared.option.Option.{Option}
 use Rattle.hac_outside.specs.Calls.{IsFailingCall, next_number}
 use Rattle.hac_disk.specs.Images.{overlaid, Torn}
+use Rattle.hac_disk.specs.Seen.{DiskSeen}
 
 -- a call that went well and changed something: a write, a sync, a name that was attached
 pub data Call : Type 0 where
@@ -49,25 +49,16 @@ attached_by (Attached name make ∷ older) = attached_by older ++ (name, make) �
 attached_by (Wrote at bytes ∷ older) = attached_by older
 attached_by (Synced ∷ older) = attached_by older
 
--- what a read gives
-abbrev pub bytes_of_disk : DiskState → Option (List ℕ)
-bytes_of_disk disk = Some (file_after disk.first disk.done)
-
--- what a crash now may leave
-abbrev pub left_after : DiskState → List ℕ → Type 0
-left_after disk c = Image disk.first disk.done c
-
--- the moment: how many calls there were
-abbrev pub moment_of : DiskState → ℕ
-moment_of disk = length disk.done
-
--- what a crash since the moment t might have left
-abbrev pub left_since : DiskState → ℕ → List ℕ → Type 0
-left_since disk t c = ImageSince disk.first disk.done t c
-
--- the names that were attached
-abbrev pub attached_to : DiskState → Option (List (List ℕ × Bool))
-attached_to disk = Some (attached_by disk.done)
+-- what is seen of it: the moment is how many calls there were
+abbrev pub seen_of : DiskState → DiskSeen
+seen_of disk = record {
+  contents = Some (file_after disk.first disk.done);
+  image = Image disk.first disk.done;
+  moment = length disk.done;
+  image_since = ImageSince disk.first disk.done;
+  attached = Some (attached_by disk.done);
+  faults = disk.faults;
+}
 
 -- the disk's next call fails, whatever it is asked
 abbrev pub IsFailing : DiskState → Type 0

@@ -44,26 +44,11 @@ impl<'a> FileDisk<'a> {
 }
 
 impl Disk for FileDisk<'_> {
-    ghost use Rattle.std.specs.Prelude.{None};
-    ghost use Rattle.hac_disk.specs.Unknown.{anything};
+    ghost use Rattle.hac_disk.specs.Unknown.{unknown, unknown_lawful};
 
-    ghost seen = { λ disk. None };
+    ghost seen = { λ disk. unknown disk.faults };
 
-    ghost image = { λ disk c. anything c };
-
-    ghost moment = { λ disk. 0 };
-
-    ghost image_since = { λ disk t c. anything c };
-
-    ghost attached = { λ disk. None };
-
-    ghost faults = { λ disk. disk.faults };
-
-    ghost read_is_image = { λ disk file same. tt };
-
-    ghost counts_now = { λ disk t c le now. tt };
-
-    ghost only_now = { λ disk c left. tt };
+    ghost lawful = { λ disk. unknown_lawful disk.faults };
 
     fn attach(&mut self, name: &str, make: bool) -> Result<(), Failed> {
         self.file = None;

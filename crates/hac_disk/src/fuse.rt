@@ -3,9 +3,9 @@ ghost use Rattle.std.specs.Prelude.{◌≡◌, ◌+◌, ◌-◌, ◌↔◌, IfOk
 ghost use Rattle.std.specs.Prelude.{is_ok, length};
 ghost use Rattle.hac_outside.specs.Calls.{next_number};
 ghost use Rattle.hac_outside.specs.Causes.{HasCause};
-ghost use Rattle.hac_disk.specs.Fuse.{Burns};
-ghost use Rattle.hac_disk.specs.Images.{Elapses, Follows, IsQuiet, Torn};
-ghost use Rattle.hac_disk.specs.Contents.{Attaches, HasLength, IsSettled, RangeWithin, StandAt};
+ghost use Rattle.hac_disk.specs.Fuse.{Burns, behind_fuse, fuse_lawful};
+ghost use Rattle.hac_disk.specs.Images.{Elapses, Follows, IsQuiet, IsSettled, Torn};
+ghost use Rattle.hac_disk.specs.Contents.{Attaches, HasLength, RangeWithin, StandAt};
 ghost use Rattle.hac_disk.specs.Contents.{StartsWithin, Written, WrittenInPart};
 
 use super::disks::Disk;
@@ -48,8 +48,8 @@ impl<D: Disk> FuseDisk<D> {
         ensures blown { self.new.blown ≡ (if is_ok result then self.old.blown else next_number
             self.old.blown) }
         ensures disk { self.new.disk ≡ self.old.disk }
-        ensures cause { HasCause (D.faults self.old.disk + self.old.blown)
-            (D.faults self.new.disk + self.new.blown) result }
+        ensures cause { HasCause ((D.seen self.old.disk).faults + self.old.blown)
+            ((D.seen self.new.disk).faults + self.new.blown) result }
     {
         if self.calls == 0 {
             self.blown = self.blown.saturating_add(1);
@@ -61,33 +61,18 @@ impl<D: Disk> FuseDisk<D> {
 }
 
 impl<D: Disk> Disk for FuseDisk<D> {
-    ghost seen = { λ fuse. D.seen fuse.disk };
+    ghost seen = { λ fuse. behind_fuse (D.seen fuse.disk) fuse.blown };
 
-    ghost image = { λ fuse c. D.image fuse.disk c };
-
-    ghost moment = { λ fuse. D.moment fuse.disk };
-
-    ghost image_since = { λ fuse t c. D.image_since fuse.disk t c };
-
-    ghost attached = { λ fuse. D.attached fuse.disk };
-
-    ghost faults = { λ fuse. D.faults fuse.disk + fuse.blown };
-
-    ghost read_is_image = { λ fuse file same. D.read_is_image fuse.disk file same };
-
-    ghost counts_now = { λ fuse t c le now. D.counts_now fuse.disk t c le now };
-
-    ghost only_now = { λ fuse c left. D.only_now fuse.disk c left };
+    ghost lawful = { λ fuse. fuse_lawful (D.seen fuse.disk) fuse.blown (D.lawful fuse.disk) };
 
     fn attach(&mut self, name: &str, make: bool) -> Result<(), Failed>
-        ensures attached { Attaches (D.attached self.old.disk) name.now make result
-            (D.attached self.new.disk) }
-        ensures quiet { IsQuiet (λ fuse. D.seen fuse.disk) (λ fuse c. D.image fuse.disk c)
-            (λ fuse. D.moment fuse.disk) (λ fuse t c. D.image_since fuse.disk t c)
-            self.old self.new }
-        ensures cause { HasCause (D.faults self.old.disk + self.old.blown)
-            (D.faults self.new.disk + self.new.blown) result }
-        ensures passes { Burns D.faults self.old.calls self.new.calls self.old.disk self.new.disk
+        ensures attached { Attaches (D.seen self.old.disk).attached name.now make result
+            (D.seen self.new.disk).attached }
+        ensures quiet { IsQuiet (behind_fuse (D.seen self.old.disk) self.old.blown)
+            (behind_fuse (D.seen self.new.disk) self.new.blown) }
+        ensures cause { HasCause ((D.seen self.old.disk).faults + self.old.blown)
+            ((D.seen self.new.disk).faults + self.new.blown) result }
+        ensures passes { Burns D.seen self.old.calls self.new.calls self.old.disk self.new.disk
             result }
     {
         self.burn()?;
@@ -95,14 +80,13 @@ impl<D: Disk> Disk for FuseDisk<D> {
     }
 
     fn len(&mut self) -> Result<u64, Failed>
-        ensures len { IfOk result (λ len. HasLength (D.seen self.old.disk) len) }
-        ensures attached { D.attached self.new.disk ≡ D.attached self.old.disk }
-        ensures quiet { IsQuiet (λ fuse. D.seen fuse.disk) (λ fuse c. D.image fuse.disk c)
-            (λ fuse. D.moment fuse.disk) (λ fuse t c. D.image_since fuse.disk t c)
-            self.old self.new }
-        ensures cause { HasCause (D.faults self.old.disk + self.old.blown)
-            (D.faults self.new.disk + self.new.blown) result }
-        ensures passes { Burns D.faults self.old.calls self.new.calls self.old.disk self.new.disk
+        ensures len { IfOk result (λ len. HasLength (D.seen self.old.disk).contents len) }
+        ensures attached { (D.seen self.new.disk).attached ≡ (D.seen self.old.disk).attached }
+        ensures quiet { IsQuiet (behind_fuse (D.seen self.old.disk) self.old.blown)
+            (behind_fuse (D.seen self.new.disk) self.new.blown) }
+        ensures cause { HasCause ((D.seen self.old.disk).faults + self.old.blown)
+            ((D.seen self.new.disk).faults + self.new.blown) result }
+        ensures passes { Burns D.seen self.old.calls self.new.calls self.old.disk self.new.disk
             result }
     {
         self.burn()?;
@@ -110,15 +94,14 @@ impl<D: Disk> Disk for FuseDisk<D> {
     }
 
     fn read_at(&mut self, at: u64, into: &mut [u8]) -> Result<(), Failed>
-        requires { RangeWithin (D.seen self.old.disk) at (length into.old) }
-        ensures read { OnOk result (StandAt (D.seen self.old.disk) at into.new) }
-        ensures attached { D.attached self.new.disk ≡ D.attached self.old.disk }
-        ensures quiet { IsQuiet (λ fuse. D.seen fuse.disk) (λ fuse c. D.image fuse.disk c)
-            (λ fuse. D.moment fuse.disk) (λ fuse t c. D.image_since fuse.disk t c)
-            self.old self.new }
-        ensures cause { HasCause (D.faults self.old.disk + self.old.blown)
-            (D.faults self.new.disk + self.new.blown) result }
-        ensures passes { Burns D.faults self.old.calls self.new.calls self.old.disk self.new.disk
+        requires { RangeWithin (D.seen self.old.disk).contents at (length into.old) }
+        ensures read { OnOk result (StandAt (D.seen self.old.disk).contents at into.new) }
+        ensures attached { (D.seen self.new.disk).attached ≡ (D.seen self.old.disk).attached }
+        ensures quiet { IsQuiet (behind_fuse (D.seen self.old.disk) self.old.blown)
+            (behind_fuse (D.seen self.new.disk) self.new.blown) }
+        ensures cause { HasCause ((D.seen self.old.disk).faults + self.old.blown)
+            ((D.seen self.new.disk).faults + self.new.blown) result }
+        ensures passes { Burns D.seen self.old.calls self.new.calls self.old.disk self.new.disk
             result }
     {
         self.burn()?;
@@ -126,19 +109,19 @@ impl<D: Disk> Disk for FuseDisk<D> {
     }
 
     fn write_at(&mut self, at: u64, bytes: &[u8]) -> Result<(), Failed>
-        requires { StartsWithin (D.seen self.old.disk) at }
-        ensures written { OnOk result (Written (D.seen self.old.disk) at bytes.now
-            (D.seen self.new.disk)) }
-        ensures in_part { OnErr result (WrittenInPart (D.seen self.old.disk) at (length bytes.now)
-            (D.seen self.new.disk)) }
-        ensures images { Follows (Torn at (length bytes.now)) (D.image self.old.disk)
-            (D.image self.new.disk) }
-        ensures time { Elapses (D.moment self.old.disk) (D.moment self.new.disk)
-            (D.image_since self.old.disk) (D.image_since self.new.disk) (D.image self.new.disk) }
-        ensures attached { D.attached self.new.disk ≡ D.attached self.old.disk }
-        ensures cause { HasCause (D.faults self.old.disk + self.old.blown)
-            (D.faults self.new.disk + self.new.blown) result }
-        ensures passes { Burns D.faults self.old.calls self.new.calls self.old.disk self.new.disk
+        requires { StartsWithin (D.seen self.old.disk).contents at }
+        ensures written { OnOk result (Written (D.seen self.old.disk).contents at bytes.now
+            (D.seen self.new.disk).contents) }
+        ensures in_part { OnErr result (WrittenInPart (D.seen self.old.disk).contents
+            at (length bytes.now) (D.seen self.new.disk).contents) }
+        ensures images { Follows (Torn at (length bytes.now)) (D.seen self.old.disk).image
+            (D.seen self.new.disk).image }
+        ensures time { Elapses (behind_fuse (D.seen self.old.disk) self.old.blown)
+            (behind_fuse (D.seen self.new.disk) self.new.blown) }
+        ensures attached { (D.seen self.new.disk).attached ≡ (D.seen self.old.disk).attached }
+        ensures cause { HasCause ((D.seen self.old.disk).faults + self.old.blown)
+            ((D.seen self.new.disk).faults + self.new.blown) result }
+        ensures passes { Burns D.seen self.old.calls self.new.calls self.old.disk self.new.disk
             result }
     {
         self.burn()?;
@@ -146,14 +129,14 @@ impl<D: Disk> Disk for FuseDisk<D> {
     }
 
     fn sync(&mut self) -> Result<(), Failed>
-        ensures settled { OnOk result (IsSettled (D.seen self.new.disk) (D.image self.new.disk)) }
-        ensures attached { D.attached self.new.disk ≡ D.attached self.old.disk }
-        ensures quiet { IsQuiet (λ fuse. D.seen fuse.disk) (λ fuse c. D.image fuse.disk c)
-            (λ fuse. D.moment fuse.disk) (λ fuse t c. D.image_since fuse.disk t c)
-            self.old self.new }
-        ensures cause { HasCause (D.faults self.old.disk + self.old.blown)
-            (D.faults self.new.disk + self.new.blown) result }
-        ensures passes { Burns D.faults self.old.calls self.new.calls self.old.disk self.new.disk
+        ensures settled { OnOk result (IsSettled
+            (behind_fuse (D.seen self.new.disk) self.new.blown)) }
+        ensures attached { (D.seen self.new.disk).attached ≡ (D.seen self.old.disk).attached }
+        ensures quiet { IsQuiet (behind_fuse (D.seen self.old.disk) self.old.blown)
+            (behind_fuse (D.seen self.new.disk) self.new.blown) }
+        ensures cause { HasCause ((D.seen self.old.disk).faults + self.old.blown)
+            ((D.seen self.new.disk).faults + self.new.blown) result }
+        ensures passes { Burns D.seen self.old.calls self.new.calls self.old.disk self.new.disk
             result }
     {
         self.burn()?;

@@ -3,12 +3,11 @@
 ghost use Rattle.std.specs.Prelude.{◌≡◌, ◌⊎◌, ◌-◌, ◌<◌, ◌↔◌, ◌==◌, [], IfOk, IsErr, OnErr, OnOk};
 ghost use Rattle.std.specs.Prelude.{if◌then◌else◌, is_ok, length};
 ghost use Rattle.hac_outside.specs.Causes.{HasCause};
-ghost use Rattle.hac_disk.specs.Images.{Elapses, Follows, IsQuiet, Torn};
+ghost use Rattle.hac_disk.specs.Images.{Elapses, Follows, IsQuiet, IsSettled, Torn};
 ghost use Rattle.hac_disk.specs.Memory.{Attached, IsFailing, IsNextCall, Synced, TouchesGap, Wrote};
-ghost use Rattle.hac_disk.specs.Memory.{attached_to, left_after, left_since, moment_of};
-ghost use Rattle.hac_disk.specs.Memory.{bytes_of_disk, with_call};
+ghost use Rattle.hac_disk.specs.Memory.{seen_of, with_call};
 ghost use Rattle.hac_disk.specs.Parts.{contents};
-ghost use Rattle.hac_disk.specs.Contents.{Attaches, HasLength, IsSettled, RangeWithin, StandAt};
+ghost use Rattle.hac_disk.specs.Contents.{Attaches, HasLength, RangeWithin, StandAt};
 ghost use Rattle.hac_disk.specs.Contents.{StartsWithin, Written, WrittenInPart};
 
 use super::disks::Disk;
@@ -110,30 +109,16 @@ impl MemoryDisk {
 }
 
 impl Disk for MemoryDisk {
-    ghost use Rattle.hac_disk.specs.MemoryLaws.{image_counts_now, image_only_now, bytes_are_image};
+    ghost use Rattle.hac_disk.specs.MemoryLaws.{memory_lawful};
 
-    ghost seen = { bytes_of_disk };
+    ghost seen = { seen_of };
 
-    ghost image = { left_after };
-
-    ghost moment = { moment_of };
-
-    ghost image_since = { left_since };
-
-    ghost attached = { attached_to };
-
-    ghost faults = { λ disk. disk.faults };
-
-    ghost read_is_image = { λ disk file same. bytes_are_image disk.first disk.done file same };
-
-    ghost counts_now = { λ disk t c le now. image_counts_now disk.first disk.done t c le now };
-
-    ghost only_now = { λ disk c left. image_only_now disk.first disk.done c left };
+    ghost lawful = { memory_lawful };
 
     fn attach(&mut self, name: &str, make: bool) -> Result<(), Failed>
-        ensures attached { Attaches (attached_to self.old) name.now make result
-            (attached_to self.new) }
-        ensures quiet { IsQuiet bytes_of_disk left_after moment_of left_since self.old self.new }
+        ensures attached { Attaches (seen_of self.old).attached name.now make result
+            (seen_of self.new).attached }
+        ensures quiet { IsQuiet (seen_of self.old) (seen_of self.new) }
         ensures cause { HasCause self.old.faults self.new.faults result }
 
         // Which calls fail, and what the others change.
@@ -157,9 +142,9 @@ impl Disk for MemoryDisk {
     }
 
     fn len(&mut self) -> Result<u64, Failed>
-        ensures len { IfOk result (λ len. HasLength (bytes_of_disk self.old) len) }
-        ensures attached { attached_to self.new ≡ attached_to self.old }
-        ensures quiet { IsQuiet bytes_of_disk left_after moment_of left_since self.old self.new }
+        ensures len { IfOk result (λ len. HasLength (seen_of self.old).contents len) }
+        ensures attached { (seen_of self.new).attached ≡ (seen_of self.old).attached }
+        ensures quiet { IsQuiet (seen_of self.old) (seen_of self.new) }
         ensures cause { HasCause self.old.faults self.new.faults result }
         ensures fails { IsErr result ↔ IsFailing self.old }
         ensures done { self.new.done ≡ self.old.done }
@@ -171,10 +156,10 @@ impl Disk for MemoryDisk {
     }
 
     fn read_at(&mut self, at: u64, into: &mut [u8]) -> Result<(), Failed>
-        requires { RangeWithin (bytes_of_disk self.old) at (length into.old) }
-        ensures read { OnOk result (StandAt (bytes_of_disk self.old) at into.new) }
-        ensures attached { attached_to self.new ≡ attached_to self.old }
-        ensures quiet { IsQuiet bytes_of_disk left_after moment_of left_since self.old self.new }
+        requires { RangeWithin (seen_of self.old).contents at (length into.old) }
+        ensures read { OnOk result (StandAt (seen_of self.old).contents at into.new) }
+        ensures attached { (seen_of self.new).attached ≡ (seen_of self.old).attached }
+        ensures quiet { IsQuiet (seen_of self.old) (seen_of self.new) }
         ensures cause { HasCause self.old.faults self.new.faults result }
         ensures fails { IsErr result ↔ IsFailing self.old }
         ensures done { self.new.done ≡ self.old.done }
@@ -187,16 +172,15 @@ impl Disk for MemoryDisk {
     }
 
     fn write_at(&mut self, at: u64, bytes: &[u8]) -> Result<(), Failed>
-        requires { StartsWithin (bytes_of_disk self.old) at }
-        ensures written { OnOk result (Written (bytes_of_disk self.old) at bytes.now
-            (bytes_of_disk self.new)) }
-        ensures in_part { OnErr result (WrittenInPart (bytes_of_disk self.old) at (length bytes.now)
-            (bytes_of_disk self.new)) }
-        ensures images { Follows (Torn at (length bytes.now)) (left_after self.old)
-            (left_after self.new) }
-        ensures time { Elapses (moment_of self.old) (moment_of self.new) (left_since self.old)
-            (left_since self.new) (left_after self.new) }
-        ensures attached { attached_to self.new ≡ attached_to self.old }
+        requires { StartsWithin (seen_of self.old).contents at }
+        ensures written { OnOk result (Written (seen_of self.old).contents at bytes.now
+            (seen_of self.new).contents) }
+        ensures in_part { OnErr result (WrittenInPart (seen_of self.old).contents
+            at (length bytes.now) (seen_of self.new).contents) }
+        ensures images { Follows (Torn at (length bytes.now)) (seen_of self.old).image
+            (seen_of self.new).image }
+        ensures time { Elapses (seen_of self.old) (seen_of self.new) }
+        ensures attached { (seen_of self.new).attached ≡ (seen_of self.old).attached }
         ensures cause { HasCause self.old.faults self.new.faults result }
         ensures fails { IsErr result ↔ (IsFailing self.old ⊎
             ((self.old.room < length bytes.now) ⊎ TouchesGap self.old at (length bytes.now))) }
@@ -219,9 +203,9 @@ impl Disk for MemoryDisk {
     }
 
     fn sync(&mut self) -> Result<(), Failed>
-        ensures settled { OnOk result (IsSettled (bytes_of_disk self.new) (left_after self.new)) }
-        ensures attached { attached_to self.new ≡ attached_to self.old }
-        ensures quiet { IsQuiet bytes_of_disk left_after moment_of left_since self.old self.new }
+        ensures settled { OnOk result (IsSettled (seen_of self.new)) }
+        ensures attached { (seen_of self.new).attached ≡ (seen_of self.old).attached }
+        ensures quiet { IsQuiet (seen_of self.old) (seen_of self.new) }
         ensures cause { HasCause self.old.faults self.new.faults result }
         ensures fails { IsErr result ↔ IsFailing self.old }
         ensures done { self.new.done ≡ with_call result Synced self.old.done }

@@ -1,36 +1,36 @@
 -- What an append leaves at any moment, after its first write and after both.
-use Rattle.std.proofs.Common.{◌≡◌, ℕ, ◌+◌, List, ◌∷◌, Some, IfSome, subst}
-use Rattle.std.specs.declared.option.Option.{Option}
-use Rattle.hac_disk.specs.Images.{LeavesOnly, TornFrom}
-use Rattle.hac_disk.specs.Contents.{HasByteAt, IsSettled, Written}
+use Rattle.std.proofs.Common.{◌≡◌, ℕ, ◌+◌, List, ◌∷◌, IfSome, subst}
+use Rattle.hac_disk.specs.Contents.{HasByteAt, Written}
+use Rattle.hac_disk.specs.Images.{IsSettled, LeavesOnly, TornFrom}
+use Rattle.hac_disk.specs.Seen.{DiskSeen, IsLawful}
 use Rattle.hac_disk.proofs.Moments.{then_run, weaken}
 use Rattle.hac_disk.proofs.ContentsLemmas.{if_known}
 use Rattle.hac_journal.specs.Appending.{Appending, ClosedAt}
 use Rattle.hac_journal.proofs.CrashLemmas.{torn-behind, gate-images}
 
-module _ {D : Type 0} (seen : D → Option (List ℕ)) (image : D → List ℕ → Type 0) (moment : D → ℕ) (image_since : D → ℕ → List ℕ → Type 0) where
-  abbrev pub Promise : D → D → ℕ → List ℕ → Type 0
-  Promise old new end log =
-      IfSome (seen old) (λ _. ((c : List ℕ) → image old c → ClosedAt end c) → LeavesOnly moment image_since old new (Appending end log (image old)))
+abbrev Leaves : DiskSeen → DiskSeen → ℕ → List ℕ → Type 0
+Leaves old new end log = ((c : List ℕ) → old.image c → ClosedAt end c) → LeavesOnly old new (Appending end log old.image)
 
-  abbrev Runs : D → D → ℕ → ℕ → Type 0
-  Runs old new at n = LeavesOnly moment image_since old new (TornFrom at n (image old))
+abbrev pub Promise : DiskSeen → DiskSeen → ℕ → List ℕ → Type 0
+Promise old new end log = IfSome old.contents (λ _. Leaves old new end log)
 
-  behind-run : (old mid : D) (end n : ℕ) (log : List ℕ) → Runs old mid (end + 1) n
-      → ((c : List ℕ) → image old c → ClosedAt end c) → LeavesOnly moment image_since old mid (Appending end log (image old))
-  behind-run old mid end n log run closed =
-      weaken moment image_since old mid (TornFrom (end + 1) n (image old)) (Appending end log (image old)) (λ c. torn-behind end n log c (image old) closed) run
+abbrev Runs : DiskSeen → DiskSeen → ℕ → ℕ → Type 0
+Runs old new at n = LeavesOnly old new (TornFrom at n old.image)
 
-  pub behind-moments : (old mid : D) (end n : ℕ) (log : List ℕ) → Runs old mid (end + 1) n → Promise old mid end log
-  behind-moments old mid end n log run =
-      if_known (seen old) (((c : List ℕ) → image old c → ClosedAt end c) → LeavesOnly moment image_since old mid (Appending end log (image old))) (λ file is closed. behind-run old mid end n log run closed)
+behind-run : (old mid : DiskSeen) (end n : ℕ) (log : List ℕ) → Runs old mid (end + 1) n → Leaves old mid end log
+behind-run old mid end n log run closed =
+    weaken old mid (TornFrom (end + 1) n old.image) (Appending end log old.image) (λ c. torn-behind end n log c old.image closed) run
 
-  pub both-moments : ((disk : D) (file : List ℕ) → seen disk ≡ Some file → image disk file) → (old mid new : D) (end n : ℕ) (body log : List ℕ)
-      → 1 ∷ body ≡ log → HasByteAt (seen old) end → Written (seen old) (end + 1) body (seen mid) → IsSettled (seen mid) (image mid)
-      → Runs old mid (end + 1) n → Runs mid new end 1 → Promise old new end log
-  both-moments read_is_image old mid new end n body log is gate written settled first second =
-      if_known (seen old) (((c : List ℕ) → image old c → ClosedAt end c) → LeavesOnly moment image_since old new (Appending end log (image old))) (λ file told closed.
-      let opening : LeavesOnly moment image_since mid new (Appending end log (image old)) =
-      weaken moment image_since mid new (TornFrom end 1 (image mid)) (Appending end log (image old))
-      (λ c torn. subst (λ l. Appending end l (image old) c) is (gate-images (seen old) (seen mid) end body file (image old) (image mid) told (read_is_image old file told) gate written settled c torn)) second in
-      then_run moment image_since old mid new (Appending end log (image old)) (behind-run old mid end n log first closed) opening)
+pub behind-moments : (old mid : DiskSeen) (end n : ℕ) (log : List ℕ) → Runs old mid (end + 1) n → Promise old mid end log
+behind-moments old mid end n log run =
+    if_known old.contents (Leaves old mid end log) (λ file is closed. behind-run old mid end n log run closed)
+
+pub both-moments : (old mid new : DiskSeen) → IsLawful old → (end n : ℕ) (body log : List ℕ)
+    → 1 ∷ body ≡ log → HasByteAt old.contents end → Written old.contents (end + 1) body mid.contents → IsSettled mid
+    → Runs old mid (end + 1) n → Runs mid new end 1 → Promise old new end log
+both-moments old mid new lawful end n body log is gate written settled first second =
+    if_known old.contents (Leaves old new end log) (λ file told closed.
+    let opening : LeavesOnly mid new (Appending end log old.image) =
+    weaken mid new (TornFrom end 1 mid.image) (Appending end log old.image)
+    (λ c torn. subst (λ l. Appending end l old.image c) is (gate-images old mid end body file told (lawful.read_is_image file told) gate written settled c torn)) second in
+    then_run old mid new (Appending end log old.image) (behind-run old mid end n log first closed) opening)

@@ -3,8 +3,9 @@ use Rattle.std.proofs.Common.{◌≡◌, ◌⊎◌, inl, inr, ⊎_elim, ℕ, suc
 use Rattle.std.specs.declared.option.Option.{Option}
 use Rattle.std.proofs.lemmas.List.{take-take, drop_more, take_at, drop_at, get_or-take, length-take}
 use Rattle.std.proofs.lemmas.Bool.{cases_eq}
-use Rattle.hac_disk.specs.Images.{overlaid, Torn, TornFrom}
-use Rattle.hac_disk.specs.Contents.{HasByteAt, IsSettled, Written}
+use Rattle.hac_disk.specs.Contents.{HasByteAt, Written}
+use Rattle.hac_disk.specs.Images.{IsSettled, overlaid, Torn, TornFrom}
+use Rattle.hac_disk.specs.Seen.{DiskSeen}
 use Rattle.hac_disk.proofs.TornLemmas.{overlaid-before, length-overlaid}
 use Rattle.hac_disk.proofs.ContentsLemmas.{told-written, told-settled}
 use Rattle.hac_journal.specs.Appending.{ClosedAt, HoldsAt, Appending}
@@ -77,13 +78,13 @@ module _ (end : ℕ) (body file : List ℕ) (gate : end < length file) where
       ∙ ap (λ (k : ℕ). take end file ++ (1 ∷ body) ++ drop k file) more
 
 -- the images of the second write, where the first one lasts
-pub gate-images : (seen mid : Option (List ℕ)) (end : ℕ) (body file : List ℕ) (image mid_image : List ℕ → Type 0) → seen ≡ Some file → image file
-    → HasByteAt seen end → Written seen (end + 1) body mid → IsSettled mid mid_image
-    → (c : List ℕ) → TornFrom end 1 mid_image c → Appending end (1 ∷ body) image c
-gate-images seen mid end body file image mid_image is left gate written settled c (d, left_mid, torn) =
+pub gate-images : (old mid : DiskSeen) (end : ℕ) (body file : List ℕ) → old.contents ≡ Some file → old.image file
+    → HasByteAt old.contents end → Written old.contents (end + 1) body mid.contents → IsSettled mid
+    → (c : List ℕ) → TornFrom end 1 mid.image c → Appending end (1 ∷ body) old.image c
+gate-images old mid end body file is left gate written settled c (d, left_mid, torn) =
     let there : end < length file = subst (λ s. HasByteAt s end) is gate in
-    let only = told-settled mid (overlaid (end + 1) body file) mid_image (told-written seen mid file body (end + 1) is written) settled in
-    opening end body file there c image left (subst (λ f. Torn end 1 f c) (only d left_mid) torn)
+    let only = told-settled mid (overlaid (end + 1) body file) (told-written old.contents mid.contents file body (end + 1) is written) settled in
+    opening end body file there c old.image left (subst (λ f. Torn end 1 f c) (only d left_mid) torn)
 
 pub written-joined : (seen mid new : Option (List ℕ)) (end : ℕ) (body : List ℕ) → HasByteAt seen end
     → Written seen (end + 1) body mid → Written mid end (1 ∷ []) new → Written seen end (1 ∷ body) new

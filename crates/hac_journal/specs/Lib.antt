@@ -1,4 +1,5 @@
 pub mod Appending
+pub mod Faults
 pub mod Finding
 pub mod Laws
 pub mod Records

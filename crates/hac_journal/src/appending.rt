@@ -1,10 +1,11 @@
 //! Putting records behind a log, all of them or none.
-ghost use Rattle.std.specs.Prelude.{◌≡◌, ◌⊎◌, ◌+◌, ◌<◌, ◌≤◌, ◌↔◌, List, ℕ, IfOk, IfSome};
+ghost use Rattle.std.specs.Prelude.{◌≡◌, ◌⊎◌, ◌+◌, ◌<◌, ◌↔◌, List, ℕ, IfOk, IfSome};
 ghost use Rattle.std.specs.Prelude.{IsErrOf, OnOk, length};
-ghost use Rattle.hac_outside.specs.Causes.{Rose};
-ghost use Rattle.hac_disk.specs.Images.{LeavesOnly};
-ghost use Rattle.hac_disk.specs.Contents.{HasByteAt, IsSettled, Written};
+ghost use Rattle.hac_outside.specs.Causes.{ReportsFault};
+ghost use Rattle.hac_disk.specs.Images.{IsSettled, LeavesOnly};
+ghost use Rattle.hac_disk.specs.Contents.{HasByteAt, Written};
 ghost use Rattle.hac_journal.specs.Appending.{Appending, ClosedAt};
+ghost use Rattle.hac_journal.specs.Faults.{is_disk_fault};
 ghost use Rattle.hac_journal.specs.Records.{AreShort, contents_of, log_of, records_of};
 
 use super::fault::JournalFault;
@@ -26,12 +27,13 @@ pub fn append<D: Disk>(
 ) -> Result<u64, JournalFault>
     requires some { 0 < length payloads.now }
     requires short { AreShort (contents_of payloads.now) }
-    requires place { HasByteAt (D.seen disk.old) end }
+    requires place { HasByteAt (D.seen disk.old).contents end }
     ensures end { IfOk result (λ new. new ≡ end + length (records_of (contents_of payloads.now))) }
-    ensures written { OnOk result (Written (D.seen disk.old) end (log_of (contents_of payloads.now))
-        (D.seen disk.new)) }
-    ensures settled { OnOk result (IsSettled (D.seen disk.new) (D.image disk.new)) }
-    ensures gate { IfOk result (λ new. HasByteAt (D.seen disk.new) new) }
+    ensures written { OnOk result (Written (D.seen disk.old).contents end
+        (log_of (contents_of payloads.now))
+        (D.seen disk.new).contents) }
+    ensures settled { OnOk result (IsSettled (D.seen disk.new)) }
+    ensures gate { IfOk result (λ new. HasByteAt (D.seen disk.new).contents new) }
     ensures full { IsErrOf result JournalFault.Full ↔
         (limit < end + length (log_of (contents_of payloads.now))) }
     ensures unwritten { (IsErrOf result JournalFault.Full ⊎ IsErrOf result JournalFault.Memory) →
@@ -39,16 +41,14 @@ pub fn append<D: Disk>(
 
     // At each moment a crash leaves an image from before the call, with none of the records or with
     // all.
-    ensures any_moment { IfSome (D.seen disk.old) (λ _.
-        ((c : List ℕ) → D.image disk.old c → ClosedAt end c)
-        → LeavesOnly D.moment D.image_since disk.old disk.new
-        (Appending end (log_of (contents_of payloads.now)) (D.image disk.old))) }
+    ensures any_moment { IfSome (D.seen disk.old).contents (λ _.
+        ((c : List ℕ) → (D.seen disk.old).image c → ClosedAt end c)
+        → LeavesOnly (D.seen disk.old) (D.seen disk.new)
+        (Appending end (log_of (contents_of payloads.now)) (D.seen disk.old).image)) }
 
-    ensures attached { D.attached disk.new ≡ D.attached disk.old }
-    ensures later { D.faults disk.old ≤ D.faults disk.new }
-    ensures cause { IsErrOf result JournalFault.Disk →
-        Rose (D.faults disk.old) (D.faults disk.new) }
-    ensures none { (IsErrOf result JournalFault.Disk → ⊥) → D.faults disk.new ≡ D.faults disk.old }
+    ensures attached { (D.seen disk.new).attached ≡ (D.seen disk.old).attached }
+    ensures faults { ReportsFault (is_disk_fault result) (D.seen disk.old).faults
+        (D.seen disk.new).faults }
 {
     let Some(new_end) = log_end(limit, end, payloads) else {
         return Err(JournalFault::Full);

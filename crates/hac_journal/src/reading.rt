@@ -1,9 +1,10 @@
 //! Going over a log, record by record, while the disk is read in larger pieces.
 ghost use Rattle.std.specs.Prelude.{◌≡◌, ◌+◌, ◌<◌, ◌≤◌, ◌^◌, [], IfOk, IsErrOf, MatchOption, drop};
 ghost use Rattle.std.specs.Prelude.{length, take};
-ghost use Rattle.hac_outside.specs.Causes.{Rose};
+ghost use Rattle.hac_outside.specs.Causes.{ReportsFault};
 ghost use Rattle.hac_disk.specs.Images.{IsQuiet};
 ghost use Rattle.hac_disk.specs.Contents.{HasLength, StandAt};
+ghost use Rattle.hac_journal.specs.Faults.{is_disk_fault};
 ghost use Rattle.hac_journal.specs.Finding.{GoesAhead, TellsAt, held_from, skipped};
 
 use super::fault::JournalFault;
@@ -50,18 +51,15 @@ impl LogReader {
     /// What is at a place of the log. If the reader doesn't hold all of the record, it reads a
     /// piece of the file from that place on, or the whole record where that is longer.
     pub fn next<D: Disk>(&mut self, disk: &mut D, at: u64) -> Result<Next, JournalFault>
-        requires { StandAt (D.seen disk.old) self.old.start self.old.bytes }
-        ensures held { StandAt (D.seen disk.new) self.new.start self.new.bytes }
-        ensures next { IfOk result (λ next. TellsAt next at (D.seen disk.old)) }
+        requires { StandAt (D.seen disk.old).contents self.old.start self.old.bytes }
+        ensures held { StandAt (D.seen disk.new).contents self.new.start self.new.bytes }
+        ensures next { IfOk result (λ next. TellsAt next at (D.seen disk.old).contents) }
         ensures ahead { IfOk result (λ next. GoesAhead next at) }
-        ensures quiet { IsQuiet D.seen D.image D.moment D.image_since disk.old disk.new }
-        ensures attached { D.attached disk.new ≡ D.attached disk.old }
+        ensures quiet { IsQuiet (D.seen disk.old) (D.seen disk.new) }
+        ensures attached { (D.seen disk.new).attached ≡ (D.seen disk.old).attached }
         ensures not_full { IsErrOf result JournalFault.Full → ⊥ }
-        ensures later { D.faults disk.old ≤ D.faults disk.new }
-        ensures cause { IsErrOf result JournalFault.Disk →
-            Rose (D.faults disk.old) (D.faults disk.new) }
-        ensures none { (IsErrOf result JournalFault.Disk → ⊥) →
-            D.faults disk.new ≡ D.faults disk.old }
+        ensures faults { ReportsFault (is_disk_fault result) (D.seen disk.old).faults
+            (D.seen disk.new).faults }
     {
         loop {
             match look_at(self.from(at)) {
@@ -117,20 +115,18 @@ impl LogReader {
         at: u64,
         need: usize,
     ) -> Result<Option<u64>, JournalFault>
-        requires held { StandAt (D.seen disk.old) self.old.start self.old.bytes }
+        requires held { StandAt (D.seen disk.old).contents self.old.start self.old.bytes }
         requires need { need < 2 ^ 33 }
-        ensures held { StandAt (D.seen disk.new) self.new.start self.new.bytes }
+        ensures held { StandAt (D.seen disk.new).contents self.new.start self.new.bytes }
         ensures filled { IfOk result (λ short. MatchOption short
             (need ≤ length (held_from self.new at))
-            (λ len. HasLength (D.seen disk.old) len × (len < at + need) × (self.new ≡ self.old))) }
-        ensures quiet { IsQuiet D.seen D.image D.moment D.image_since disk.old disk.new }
-        ensures attached { D.attached disk.new ≡ D.attached disk.old }
+            (λ len. HasLength (D.seen disk.old).contents len × (len < at + need) ×
+            (self.new ≡ self.old))) }
+        ensures quiet { IsQuiet (D.seen disk.old) (D.seen disk.new) }
+        ensures attached { (D.seen disk.new).attached ≡ (D.seen disk.old).attached }
         ensures not_full { IsErrOf result JournalFault.Full → ⊥ }
-        ensures later { D.faults disk.old ≤ D.faults disk.new }
-        ensures cause { IsErrOf result JournalFault.Disk →
-            Rose (D.faults disk.old) (D.faults disk.new) }
-        ensures none { (IsErrOf result JournalFault.Disk → ⊥) →
-            D.faults disk.new ≡ D.faults disk.old }
+        ensures faults { ReportsFault (is_disk_fault result) (D.seen disk.old).faults
+            (D.seen disk.new).faults }
     {
         let len = disk.len()?;
         if len < at || len - at < need as u64 {
@@ -153,15 +149,13 @@ impl LogReader {
 /// What is at a place of the log, by a reader of its own: for one look. To go over a log, keep a
 /// `LogReader`.
 pub fn next<D: Disk>(alloc: Global, disk: &mut D, at: u64) -> Result<Next, JournalFault>
-    ensures next { IfOk result (λ next. TellsAt next at (D.seen disk.old)) }
+    ensures next { IfOk result (λ next. TellsAt next at (D.seen disk.old).contents) }
     ensures ahead { IfOk result (λ next. GoesAhead next at) }
-    ensures quiet { IsQuiet D.seen D.image D.moment D.image_since disk.old disk.new }
-    ensures attached { D.attached disk.new ≡ D.attached disk.old }
+    ensures quiet { IsQuiet (D.seen disk.old) (D.seen disk.new) }
+    ensures attached { (D.seen disk.new).attached ≡ (D.seen disk.old).attached }
     ensures not_full { IsErrOf result JournalFault.Full → ⊥ }
-    ensures later { D.faults disk.old ≤ D.faults disk.new }
-    ensures cause { IsErrOf result JournalFault.Disk →
-        Rose (D.faults disk.old) (D.faults disk.new) }
-    ensures none { (IsErrOf result JournalFault.Disk → ⊥) → D.faults disk.new ≡ D.faults disk.old }
+    ensures faults { ReportsFault (is_disk_fault result) (D.seen disk.old).faults
+        (D.seen disk.new).faults }
 {
     LogReader::new(alloc).next(disk, at)
 }

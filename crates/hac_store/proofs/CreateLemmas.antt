@@ -1,16 +1,19 @@
 -- What a crash may leave while a new store is being made.
-use Rattle.std.proofs.Common.{◌≡◌, ◌⊎◌, inl, inr, ℕ, ◌<◌, List, [], ◌∷◌, ◌++◌, length, take, drop, slice_index, None, Some, Ok, Err, Result, IfOk, IfSome, rules, OnOk, IsErr, refl, sym, ◌∙◌, ap, subst, arith, append_assoc}
+use Rattle.std.proofs.Common.{◌≡◌, ◌⊎◌, inl, inr, ℕ, ◌<◌, List, [], ◌∷◌, ◌++◌, length, take, drop, slice_index, None, Some, Ok, Err, Result, IfOk, IfSome, OnOk, IsErr, refl, sym, ◌∙◌, ap, subst, arith, append_assoc}
+use Rattle.std.specs.Bool.{⊤}
 use Rattle.std.specs.declared.option.Option.{Option}
 use Rattle.std.proofs.lemmas.List.{get_or-take, drop_at, take_at, length-take}
-use Rattle.hac_disk.specs.Images.{IsQuiet, LeavesOnly, Torn, TornFrom, overlaid}
-use Rattle.hac_disk.specs.Contents.{HasByteAt, HasLength, IsSettled, StandAt, Written}
+use Rattle.hac_disk.specs.Contents.{HasByteAt, HasLength, StandAt, Written}
+use Rattle.hac_disk.specs.Images.{IsQuiet, IsSettled, LeavesOnly, Only, Torn, TornFrom, overlaid}
+use Rattle.hac_disk.specs.Seen.{DiskSeen, IsLawful}
 use Rattle.hac_disk.proofs.Moments.{quiet_leaves, then_quiet, then_run, weaken}
-use Rattle.hac_disk.proofs.ContentsLemmas.{if_known, told-settled}
+use Rattle.hac_disk.proofs.ContentsLemmas.{if_known, told-settled, told-written}
+use Rattle.hac_checkpoint.specs.Flips.{HasRoot}
 use Rattle.hac_journal.specs.Appending.{ClosedAt}
 use Rattle.hac_model.specs.Run.Play.{new_setting}
 use Rattle.hac_store.specs.Creating.{Becomes, IsReady, HoldsNone}
 use Rattle.hac_store.specs.Held.{held}
-use Rattle.hac_store.specs.Stores.{Bears, IsNewOrNone, Seen, Stands, first_store}
+use Rattle.hac_store.specs.Stores.{Bears, IsNewOrNone, Seen, Stands, first_store, root_by}
 use Rattle.hac_store.specs.declared.fault.StoreFault.{StoreFault}
 use Rattle.hac_model.specs.declared.states.State.{State}
 use Rattle.hac_store.specs.declared.creating.TheConstants.{NEW}
@@ -55,126 +58,123 @@ rest-ready (Some old) (Some file) new shut written =
     subst (Becomes (Some old) IsReady) (sym written) ready
 
 -- a store that was read from a settled disk: the disk stands for it
-pub loaded-stands : (old mid new : Option (List ℕ)) (image now : List ℕ → Type 0) (result : Result Seen StoreFault) (found : Seen) → mid ≡ old → new ≡ mid → ((c : List ℕ) → now c → image c) → IsSettled mid image
-    → IfSome mid (λ file. held file ≡ Ok found.setting) → IfOk result (λ store. store ≡ found) → IfSome old (λ _. IfOk result (λ store. Stands new now store.setting))
-loaded-stands old mid new image now result found same also images settled holds is =
-    subst (λ (o : Option (List ℕ)). IfSome o (λ _. IfOk result (λ store. Stands new now store.setting))) same
-    (subst (λ (o : Option (List ℕ)). IfSome mid (λ _. IfOk result (λ store. Stands o now store.setting))) (sym also) (at mid result settled holds is))
+pub loaded-stands : (old mid new : DiskSeen) (result : Result Seen StoreFault) (found : Seen) → mid.contents ≡ old.contents → IsQuiet mid new → IsSettled mid
+    → IfSome mid.contents (λ file. held file ≡ Ok found.setting) → IfOk result (λ store. store ≡ found) → IfSome old.contents (λ _. IfOk result (λ store. Stands new store.setting))
+loaded-stands old mid new result found same quiet settled holds is =
+    if_each old.contents (λ _. IfOk result (λ store. Stands new store.setting)) (λ file told. at file (same ∙ told) result is)
   where
-    at : (mid : Option (List ℕ)) (result : Result Seen StoreFault) → IsSettled mid image → IfSome mid (λ file. held file ≡ Ok found.setting) → IfOk result (λ store. store ≡ found)
-        → IfSome mid (λ _. IfOk result (λ store. Stands mid now store.setting))
-    at None result settled holds is = search rules
-    at (Some file) (Err fault) settled holds is = tt
-    at (Some file) (Ok store) settled holds is =
-        let told : held file ≡ Ok store.setting = holds ∙ ap (λ (s : Seen). Ok s.setting) (sym is) in
-        λ c left. ap held (settled c (images c left)) ∙ told ∙ ap (λ (s : State). Ok (record store.setting { state = s })) (sym (held-stored file store.setting told))
+    at : (file : List ℕ) → mid.contents ≡ Some file → (result : Result Seen StoreFault) → IfOk result (λ store. store ≡ found) → IfOk result (λ store. Stands new store.setting)
+    at file told (Err fault) is = tt
+    at file told (Ok store) is =
+        let only = told-settled mid file told settled in
+        let has : held file ≡ Ok store.setting = subst (λ s. IfSome s (λ f. held f ≡ Ok found.setting)) told holds ∙ ap (λ (s : Seen). Ok s.setting) (sym is) in
+        let stored = ap (λ (s : State). Ok (record store.setting { state = s })) (sym (held-stored file store.setting has)) in
+        record {
+          file = file;
+          is = quiet.same ∙ told;
+          each = λ c left. ap held (only c (quiet.images c left)) ∙ has ∙ stored;
+        }
 
 -- once its gate is open, it is a new store
-pub opened-stands : {E : Type 0} (result : Result Unit E) (seen mid new : Option (List ℕ)) (image : List ℕ → Type 0) → Becomes seen IsReady mid
-    → OnOk result (Written mid 0 (1 ∷ []) new) → OnOk result (IsSettled new image) → IfSome seen (λ _. OnOk result (Stands new image new_setting))
-opened-stands (Err e) None mid new image ready written settled = tt
-opened-stands (Err e) (Some old) mid new image ready written settled = tt
-opened-stands (Ok u) None mid new image ready written settled = tt
-opened-stands (Ok u) (Some old) None new image ready written settled = absurd ready
-opened-stands (Ok u) (Some old) (Some file) new image ready written settled =
-    let bytes = overlaid 0 (1 ∷ []) file in
-    let only = told-settled new bytes image written settled in
-    let stands : Stands (Some bytes) image new_setting = λ c left. ap held (only c left) ∙ (opened-held file ready).0 in
-    subst (λ s. Stands s image new_setting) (sym written) stands
+pub opened-stands : {E : Type 0} (result : Result Unit E) (old mid new : DiskSeen) → Becomes old.contents IsReady mid.contents
+    → OnOk result (Written mid.contents 0 (1 ∷ []) new.contents) → OnOk result (IsSettled new) → IfSome old.contents (λ _. OnOk result (Stands new new_setting))
+opened-stands (Err e) old mid new ready written settled = if_each old.contents (λ _. ⊤) (λ file is. tt)
+opened-stands (Ok u) old mid new ready written settled =
+    if_each old.contents (λ _. Stands new new_setting) (λ file is.
+    let all = became old.contents mid.contents IsReady file is ready in
+    let bytes = overlaid 0 (1 ∷ []) all.file in
+    let told = told-written mid.contents new.contents all.file (1 ∷ []) 0 all.is written in
+    let only = told-settled new bytes told settled in
+    record { file = bytes; is = told; each = λ c left. ap held (only c left) ∙ (opened-held all.file all.has).0 })
 
-pub opened-place : {E : Type 0} (result : Result Unit E) (seen mid new : Option (List ℕ)) → Becomes seen IsReady mid
-    → OnOk result (Written mid 0 (1 ∷ []) new) → OnOk result (Bears new first_store)
-opened-place (Err e) seen mid new ready written = tt
-opened-place (Ok u) None mid new ready written =
-    let none : new ≡ None = subst (λ m. Written m 0 (1 ∷ []) new) ready written in
-    subst (λ s. Bears s first_store) (sym none) (tt, tt)
-opened-place (Ok u) (Some old) None new ready written = absurd ready
-opened-place (Ok u) (Some old) (Some file) new ready written =
-    subst (λ s. Bears s first_store) (sym written) ((opened-held file ready).1, opened-rooted file ready)
+pub opened-place : {E : Type 0} (result : Result Unit E) (old mid new : DiskSeen) → Becomes old.contents IsReady mid.contents
+    → OnOk result (Written mid.contents 0 (1 ∷ []) new.contents) → OnOk result (Bears new first_store)
+opened-place (Err e) old mid new ready written = tt
+opened-place (Ok u) old mid new ready written = at old.contents mid.contents new.contents ready written
+  where
+    at : (seen mid new : Option (List ℕ)) → Becomes seen IsReady mid → Written mid 0 (1 ∷ []) new
+        → HasByteAt new first_store.setting.end × IfSome new (HasRoot (root_by first_store))
+    at None mid new ready written =
+        let none : new ≡ None = subst (λ m. Written m 0 (1 ∷ []) new) ready written in
+        subst (λ s. HasByteAt s first_store.setting.end × IfSome s (HasRoot (root_by first_store))) (sym none) (tt, tt)
+    at (Some old) None new ready written = absurd ready
+    at (Some old) (Some file) new ready written =
+        subst (λ s. HasByteAt s first_store.setting.end × IfSome s (HasRoot (root_by first_store))) (sym written) ((opened-held file ready).1, opened-rooted file ready)
 
-module _ {D : Type 0} (seen : D → Option (List ℕ)) (image : D → List ℕ → Type 0) (moment : D → ℕ) (image_since : D → ℕ → List ℕ → Type 0)
-    (only_now : (disk : D) (c : List ℕ) → image_since disk (moment disk) c → image disk c) where
-  abbrev LeavesNew : D → D → Type 0
-  LeavesNew old new = LeavesOnly moment image_since old new IsNewOrNone
+abbrev LeavesNew : DiskSeen → DiskSeen → Type 0
+LeavesNew old new = LeavesOnly old new IsNewOrNone
 
-  abbrev pub Leaves : D → D → Type 0
-  Leaves old new = IfSome (seen old) (λ _. LeavesNew old new)
+abbrev pub Leaves : DiskSeen → DiskSeen → Type 0
+Leaves old new = IfSome old.contents (λ _. LeavesNew old new)
 
-  abbrev pub Runs : D → D → ℕ → ℕ → Type 0
-  Runs old new at n = LeavesOnly moment image_since old new (TornFrom at n (image old))
+abbrev pub Runs : DiskSeen → DiskSeen → ℕ → ℕ → Type 0
+Runs old new at n = LeavesOnly old new (TornFrom at n old.image)
 
-  abbrev pub Quiet : D → D → Type 0
-  Quiet old new = IsQuiet seen image moment image_since old new
+-- no write yet, where the file is settled and holds no store
+quiet-run : (old new : DiskSeen) (file : List ℕ) → IsLawful old → old.contents ≡ Some file → IsSettled old → HoldsNone old.contents → IsQuiet old new → LeavesNew old new
+quiet-run old new file lawful is settled unheld quiet =
+    quiet_leaves old new IsNewOrNone
+    (λ c since. unheld-new c (subst (λ f. IsErr (held f)) (sym (told-settled old file is settled c (lawful.only_now c since))) (subst HoldsNone is unheld))) quiet
 
-  abbrev pub Settled : D → Type 0
-  Settled disk = IsSettled (seen disk) (image disk)
+-- one write to a settled file
+write-run : (mid new : DiskSeen) (at n : ℕ) (file : List ℕ) → mid.contents ≡ Some file → IsSettled mid → Runs mid new at n → ((c : List ℕ) → Torn at n file c → IsNewOrNone c) → LeavesNew mid new
+write-run mid new at n file is settled run each =
+    weaken mid new (TornFrom at n mid.image) IsNewOrNone
+    (λ c torn. each c (subst (λ d. Torn at n d c) (told-settled mid file is settled torn.0 torn.1) torn.2)) run
 
-  -- no write yet, where the file is settled and holds no store
-  quiet-run : (old new : D) (file : List ℕ) → seen old ≡ Some file → Settled old → HoldsNone (seen old) → Quiet old new → LeavesNew old new
-  quiet-run old new file is settled unheld quiet =
-      quiet_leaves moment image_since seen image old new IsNewOrNone
-      (λ c since. unheld-new c (subst (λ f. IsErr (held f)) (sym (told-settled (seen old) file (image old) is settled c (only_now old c since))) (subst HoldsNone is unheld))) quiet
+quiet-settled : (old mid : DiskSeen) (file : List ℕ) → old.contents ≡ Some file → IsSettled old → IsQuiet old mid → IsSettled mid
+quiet-settled old mid file is settled quiet =
+    let only = told-settled old file is settled in
+    subst (λ s. IfSome s (λ f. Only f mid.image)) (sym (quiet.same ∙ is)) (λ c left. only c (quiet.images c left))
 
-  -- one write to a settled file
-  write-run : (mid new : D) (at n : ℕ) (file : List ℕ) → seen mid ≡ Some file → Settled mid → Runs mid new at n → ((c : List ℕ) → Torn at n file c → IsNewOrNone c) → LeavesNew mid new
-  write-run mid new at n file is settled run each =
-      weaken moment image_since mid new (TornFrom at n (image mid)) IsNewOrNone
-      (λ c torn. each c (subst (λ d. Torn at n d c) (told-settled (seen mid) file (image mid) is settled torn.0 torn.1) torn.2)) run
+-- one write behind quiet calls
+write-new : (old mid new : DiskSeen) (at n : ℕ) → IsLawful old → IsSettled old → HoldsNone old.contents → IsQuiet old mid → Runs mid new at n
+    → ((file c : List ℕ) → old.contents ≡ Some file → Torn at n file c → IsNewOrNone c) → Leaves old new
+write-new old mid new at n lawful settled unheld quiet run each =
+    if_known old.contents (LeavesNew old new) (λ file is.
+    then_run old mid new IsNewOrNone (quiet-run old mid file lawful is settled unheld quiet)
+    (write-run mid new at n file (quiet.same ∙ is) (quiet-settled old mid file is settled quiet) run (λ c torn. each file c is torn)))
 
-  quiet-settled : (old mid : D) (file : List ℕ) → seen old ≡ Some file → Settled old → Quiet old mid → Settled mid
-  quiet-settled old mid file is settled quiet =
-      let now : seen mid ≡ Some file = quiet.same ∙ is in
-      let only = told-settled (seen old) file (image old) is settled in
-      subst (λ s. IsSettled s (image mid)) (sym now) (λ c left. only c (quiet.images c left))
+-- the gate is closed
+pub close-new : (old mid new : DiskSeen) (into : List ℕ) → IsLawful old → IsSettled old → HoldsNone old.contents → HasByteAt old.contents 0 → IsQuiet old mid → StandAt old.contents 0 into
+    → 0 < length into → slice_index into 0 ≡ 1 → Runs mid new 0 1 → Leaves old new
+close-new old mid new into lawful settled unheld some quiet read long gate run =
+    write-new old mid new 0 1 lawful settled unheld quiet run
+    (λ file c is torn. torn-shut file c (subst HoldsNone is unheld) (subst (λ s. HasByteAt s 0) is some) (read-gate file into (subst (λ s. StandAt s 0 into) is read) long ∙ gate) torn)
 
-  -- one write behind quiet calls
-  write-new : (old mid new : D) (at n : ℕ) → Settled old → HoldsNone (seen old) → Quiet old mid → Runs mid new at n
-      → ((file c : List ℕ) → seen old ≡ Some file → Torn at n file c → IsNewOrNone c) → Leaves old new
-  write-new old mid new at n settled unheld quiet run each =
-      if_known (seen old) (LeavesNew old new) (λ file is.
-      then_run moment image_since old mid new IsNewOrNone (quiet-run old mid file is settled unheld quiet)
-      (write-run mid new at n file (quiet.same ∙ is) (quiet-settled old mid file is settled quiet) run (λ c torn. each file c is torn)))
+-- an empty file gets all of a new store but its open gate
+pub first-new : (old mid new : DiskSeen) (len : ℕ) → IsLawful old → IsSettled old → HoldsNone old.contents → IsQuiet old mid → HasLength old.contents len → len ≡ 0 → Runs mid new 0 65 → Leaves old new
+first-new old mid new len lawful settled unheld quiet long none run =
+    write-new old mid new 0 65 lawful settled unheld quiet run
+    (λ file c is torn. torn-first file c (sym (subst (λ s. HasLength s len) is long) ∙ none) torn)
 
-  -- the gate is closed
-  pub close-new : (old mid new : D) (into : List ℕ) → Settled old → HoldsNone (seen old) → HasByteAt (seen old) 0 → Quiet old mid → StandAt (seen old) 0 into
-      → 0 < length into → slice_index into 0 ≡ 1 → Runs mid new 0 1 → Leaves old new
-  close-new old mid new into settled unheld some quiet read long gate run =
-      write-new old mid new 0 1 settled unheld quiet run
-      (λ file c is torn. torn-shut file c (subst HoldsNone is unheld) (subst (λ s. HasByteAt s 0) is some) (read-gate file into (subst (λ s. StandAt s 0 into) is read) long ∙ gate) torn)
+-- the rest of a new store is written behind a closed gate
+pub behind-new : (old len mid new : DiskSeen) (n : ℕ) → IsLawful old → IsSettled old → HoldsNone old.contents → IsQuiet old len → Leaves len mid
+    → Becomes len.contents (ClosedAt 0) mid.contents → IsSettled mid → Runs mid new 1 n → Leaves old new
+behind-new old len mid new n lawful settled unheld quiet closing shut kept run =
+    if_known old.contents (LeavesNew old new) (λ file is.
+    let now : len.contents ≡ Some file = quiet.same ∙ is in
+    let closed = became len.contents mid.contents (ClosedAt 0) file now shut in
+    then_run old len new IsNewOrNone (quiet-run old len file lawful is settled unheld quiet)
+    (then_run len mid new IsNewOrNone (subst (λ s. IfSome s (λ _. LeavesNew len mid)) now closing)
+    (write-run mid new 1 n closed.file closed.is kept run (λ c torn. torn-behind closed.file c n closed.has torn))))
 
-  -- an empty file gets all of a new store but its open gate
-  pub first-new : (old mid new : D) (len : ℕ) → Settled old → HoldsNone (seen old) → Quiet old mid → HasLength (seen old) len → len ≡ 0 → Runs mid new 0 65 → Leaves old new
-  first-new old mid new len settled unheld quiet long none run =
-      write-new old mid new 0 65 settled unheld quiet run
-      (λ file c is torn. torn-first file c (sym (subst (λ s. HasLength s len) is long) ∙ none) torn)
+-- and then the gate is opened
+pub open-new : (old mid new : DiskSeen) → Leaves old mid → Becomes old.contents IsReady mid.contents → IsSettled mid → Runs mid new 0 1 → Leaves old new
+open-new old mid new so_far ready kept run =
+    if_known old.contents (LeavesNew old new) (λ file is.
+    let all = became old.contents mid.contents IsReady file is ready in
+    then_run old mid new IsNewOrNone (subst (λ s. IfSome s (λ _. LeavesNew old mid)) is so_far)
+    (write-run mid new 0 1 all.file all.is kept run (λ c torn. torn-open all.file c all.has torn)))
 
-  -- the rest of a new store is written behind a closed gate
-  pub behind-new : (old len mid new : D) (n : ℕ) → Settled old → HoldsNone (seen old) → Quiet old len → Leaves len mid
-      → Becomes (seen len) (ClosedAt 0) (seen mid) → Settled mid → Runs mid new 1 n → Leaves old new
-  behind-new old len mid new n settled unheld quiet closing shut kept run =
-      if_known (seen old) (LeavesNew old new) (λ file is.
-      let now : seen len ≡ Some file = quiet.same ∙ is in
-      let closed = became (seen len) (seen mid) (ClosedAt 0) file now shut in
-      then_run moment image_since old len new IsNewOrNone (quiet-run old len file is settled unheld quiet)
-      (then_run moment image_since len mid new IsNewOrNone (subst (λ s. IfSome s (λ _. LeavesNew len mid)) now closing)
-      (write-run mid new 1 n closed.file closed.is kept run (λ c torn. torn-behind closed.file c n closed.has torn))))
-
-  -- and then the gate is opened
-  pub open-new : (old mid new : D) → Leaves old mid → Becomes (seen old) IsReady (seen mid) → Settled mid → Runs mid new 0 1 → Leaves old new
-  open-new old mid new so_far ready kept run =
-      if_known (seen old) (LeavesNew old new) (λ file is.
-      let all = became (seen old) (seen mid) IsReady file is ready in
-      then_run moment image_since old mid new IsNewOrNone (subst (λ s. IfSome s (λ _. LeavesNew old mid)) is so_far)
-      (write-run mid new 0 1 all.file all.is kept run (λ c torn. torn-open all.file c all.has torn)))
-
-  -- a store is made once nothing was found
-  pub made-moments : (old synced found new : D) → Quiet old synced → Quiet synced found → Leaves found new
-      → IfSome (seen old) (λ file. IsErr (held file) → LeavesOnly moment image_since old new (λ c. image old c ⊎ IsNewOrNone c))
-  made-moments old synced found new first second leaves =
-      if_each (seen old) (λ file. IsErr (held file) → LeavesOnly moment image_since old new (λ c. image old c ⊎ IsNewOrNone c)) (λ file is none.
-      let told : seen found ≡ Some file = second.same ∙ first.same ∙ is in
-      let run = subst (λ s. IfSome s (λ _. LeavesNew found new)) told leaves in
-      let P : List ℕ → Type 0 = λ c. image old c ⊎ IsNewOrNone c in
-      let begun = quiet_leaves moment image_since seen image old synced P (λ c since. inl (only_now old c since)) first in
-      then_run moment image_since old found new P (then_quiet moment image_since seen image old synced found P begun second)
-      (weaken moment image_since found new IsNewOrNone P (λ c new. inr new) run))
+-- a store is made once nothing was found
+pub made-moments : (old synced found new : DiskSeen) → IsLawful old → IsQuiet old synced → IsQuiet synced found → Leaves found new
+    → IfSome old.contents (λ file. IsErr (held file) → LeavesOnly old new (λ c. old.image c ⊎ IsNewOrNone c))
+made-moments old synced found new lawful first second leaves =
+    if_each old.contents (λ file. IsErr (held file) → LeavesOnly old new (λ c. old.image c ⊎ IsNewOrNone c)) (λ file is none.
+    let told : found.contents ≡ Some file = second.same ∙ first.same ∙ is in
+    let run = subst (λ s. IfSome s (λ _. LeavesNew found new)) told leaves in
+    let P : List ℕ → Type 0 = λ c. old.image c ⊎ IsNewOrNone c in
+    let begun = quiet_leaves old synced P (λ c since. inl (lawful.only_now c since)) first in
+    then_run old found new P (then_quiet old synced found P begun second)
+    (weaken found new IsNewOrNone P (λ c new. inr new) run))

@@ -1,7 +1,8 @@
 -- What a store promises whose links were found last.
 use Rattle.std.proofs.Common.{◌≡◌, ◌+◌, ◌≤◌, ℕ, List, None, Some, Ok, Err, Option, Result, ap, arith, sym, subst, ◌∙◌}
 use Rattle.std.specs.Prelude.{IfErr, IfOk, IfSome, OnOk}
-use Rattle.hac_disk.specs.Contents.{IsSettled}
+use Rattle.hac_disk.specs.Images.{IsQuiet, IsSettled, Only}
+use Rattle.hac_disk.specs.Seen.{DiskSeen}
 use Rattle.hac_model.specs.Tree.Costs.{opening}
 use Rattle.hac_store.specs.Held.{held}
 use Rattle.hac_store.specs.Loading.{loading}
@@ -18,7 +19,7 @@ module _ (result : Result Seen StoreFault) (unlinked : Seen) (same : IfOk result
       of (Ok store) same memory = opens ∙ ap (λ (seen : Seen). Ok seen.setting) (sym same)
       of (Err fault) same memory = subst (λ (why : StoreFault). Opens (Err why) (held file)) (sym memory) tt
 
-  pub linked-bears : (told : Option (List ℕ)) → Bears told unlinked → IfOk result (λ store. Bears told store)
+  pub linked-bears : (told : DiskSeen) → Bears told unlinked → IfOk result (λ store. Bears told store)
   linked-bears told bears = of result same
     where
       of : (r : Result Seen StoreFault) → IfOk r (λ store. store ≡ unlinked) → IfOk r (λ store. Bears told store)
@@ -36,13 +37,10 @@ pub linked-asked : (told : Option (List ℕ)) (unlinked : Seen) (before asked af
 linked-asked None unlinked before asked after opens most = tt
 linked-asked (Some file) unlinked before asked after opens most = omega (arith, opens, most)
 
-pub linked-settled : (result : Result Seen StoreFault) (mid new : Option (List ℕ)) (was is : List ℕ → Type 0) → new ≡ mid → ((c : List ℕ) → is c → was c) → IsSettled mid was → OnOk result (IsSettled new is)
-linked-settled result mid new was is same images settled = on result
+pub linked-settled : (result : Result Seen StoreFault) (mid new : DiskSeen) → IsQuiet mid new → IsSettled mid → OnOk result (IsSettled new)
+linked-settled (Err fault) mid new quiet settled = tt
+linked-settled (Ok store) mid new quiet settled = subst (λ s. IfSome s (λ f. Only f new.image)) (sym quiet.same) (only mid.contents settled)
   where
-    only : (told : Option (List ℕ)) → IsSettled told was → IsSettled told is
+    only : (told : Option (List ℕ)) → IfSome told (λ f. Only f mid.image) → IfSome told (λ f. Only f new.image)
     only None settled = tt
-    only (Some file) settled = λ c left. settled c (images c left)
-
-    on : (r : Result Seen StoreFault) → OnOk r (IsSettled new is)
-    on (Ok store) = subst (λ (told : Option (List ℕ)). IsSettled told is) (sym same) (only mid settled)
-    on (Err fault) = tt
+    only (Some file) settled = λ c left. settled c (quiet.images c left)

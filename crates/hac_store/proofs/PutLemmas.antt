@@ -3,10 +3,11 @@ use Rattle.std.proofs.Common.{◌≡◌, inl, Bool, false, ℕ, zero, suc, ◌�
 use Rattle.std.specs.Prelude.{replicate}
 use Rattle.std.specs.declared.alloc.Global.{Global}
 use Rattle.std.specs.declared.option.Option.{Option}
-use Rattle.hac_disk.specs.Images.{LeavesOnly, overlaid}
-use Rattle.hac_disk.specs.Contents.{IsSettled, Written}
+use Rattle.hac_disk.specs.Contents.{HasByteAt, Written}
+use Rattle.hac_disk.specs.Images.{IsSettled, LeavesOnly, overlaid}
+use Rattle.hac_disk.specs.Seen.{DiskSeen, IsLawful}
 use Rattle.hac_disk.proofs.Moments.{started, weaken}
-use Rattle.hac_disk.proofs.ContentsLemmas.{told-settled}
+use Rattle.hac_disk.proofs.ContentsLemmas.{told-settled, told-written}
 use Rattle.hac_disk.proofs.TornLemmas.{torn-whole}
 use Rattle.hac_checkpoint.specs.Flips.{HasRoot}
 use Rattle.hac_checkpoint.specs.declared.heads.Slot.{Slot}
@@ -70,74 +71,70 @@ pub put-state : (old ready new : Kept) (events : List Event) → ready ≡ recor
     → new ≡ record { state = apply_all ready.state ready.ready; ready = [] } → new.state ≡ apply_all old.state events
 put-state old ready new events made gone = ap (λ (m : Kept). m.state) gone ∙ ap (λ (m : Kept). apply_all m.state m.ready) made
 
--- what a store rests on
-pub stands-each : (seen : Option (List ℕ)) (image : List ℕ → Type 0) (z : Setting) → Stands seen image z → (c : List ℕ) → image c → held c ≡ Ok (stored_setting z)
-stands-each None image z stands = absurd stands
-stands-each (Some file) image z stands = stands
-
-stands-told : (seen : Option (List ℕ)) (image : List ℕ → Type 0) (z : Setting) (P : Type 0) → Stands seen image z → IfSome seen (λ _. P) → P
-stands-told None image z P stands p = absurd stands
-stands-told (Some file) image z P stands p = p
+-- what is said of a file that the disk tells, said of one that stands for a store
+stands-told : (disk : DiskSeen) (z : Setting) (P : Type 0) → Stands disk z → IfSome disk.contents (λ _. P) → P
+stands-told disk z P stands p = subst (λ s. IfSome s (λ _. P)) stands.is p
 
 -- the records were written, and last
-pub put-stands : (seen new : Option (List ℕ)) (image now : List ℕ → Type 0) (z : Setting) (events : List Event) (vs : List (Vec ℕ Global))
-    → ((file : List ℕ) → seen ≡ Some file → image file) → contents_of vs ≡ map (event_text z.state.version) events
+pub put-stands : (old new : DiskSeen) (z : Setting) (events : List Event) (vs : List (Vec ℕ Global))
+    → IsLawful old → contents_of vs ≡ map (event_text z.state.version) events
     → AreStored z.state.version (sessionless z.state) events → sessionless (apply_all z.state events) ≡ apply_all (sessionless z.state) events
-    → Written seen z.end (log_of (contents_of vs)) new → IsSettled new now
-    → Stands seen image z → Stands new now (after_events z events)
-put-stands None new image now z events vs read texts stored leads written settled stands = absurd stands
-put-stands (Some file) new image now z events vs read texts stored leads written settled stands =
+    → Written old.contents z.end (log_of (contents_of vs)) new.contents → IsSettled new
+    → Stands old z → Stands new (after_events z events)
+put-stands old new z events vs lawful texts stored leads written settled stands =
+    let file = stands.file in
     let bytes = overlaid z.end (log_of (contents_of vs)) file in
-    let only = told-settled new bytes now written settled in
+    let told = told-written old.contents new.contents file (log_of (contents_of vs)) z.end stands.is written in
+    let only = told-settled new bytes told settled in
     let before = stored_setting z in
     let same : held bytes ≡ Ok (after_events (stored_setting z) events) =
     ap (λ (l : List (List ℕ)). held (overlaid z.end (log_of l) file)) texts
-    ∙ held-overlaid file before events (stands file (read file refl)) stored in
+    ∙ held-overlaid file before events (stands.each file (lawful.read_is_image file stands.is)) stored in
     let after : held bytes ≡ Ok (stored_setting (after_events z events)) =
     same ∙ ap (λ (s : State). Ok (record z { state = s; end = end_behind z.state.version z.end events })) (sym leads) in
-    let all : Stands (Some bytes) now (after_events z events) = λ c left. ap held (only c left) ∙ after in
-    subst (λ s. Stands s now (after_events z events)) (sym written) all
+    record { file = bytes; is = told; each = λ c left. ap held (only c left) ∙ after }
 
 -- records behind the log leave the root that counts
-pub put-root : (seen new : Option (List ℕ)) (store : Seen) (bytes : List ℕ) → store.setting.start ≤ store.setting.end → Bears seen store
-    → Written seen store.setting.end bytes new → IfSome new (HasRoot (root_by store))
-put-root None new store bytes order bears written = subst (λ s. IfSome s (HasRoot (root_by store))) (sym written) tt
-put-root (Some file) new store bytes order bears written =
-    let end = store.setting.end in
-    let behind = roots-start-behind file (root_by store) bears.1 in
-    let starts : end ≤ length file = omega (arith, bears.0) in
-    subst (λ s. IfSome s (HasRoot (root_by store))) (sym written)
-    (writes-leave-roots end (length bytes) (overlaid end bytes file) file (omega (arith, behind, order))
-    (torn-whole end bytes file starts) ∙ bears.1)
+pub put-root : (old new : DiskSeen) (store : Seen) (bytes : List ℕ) → store.setting.start ≤ store.setting.end → Bears old store
+    → Written old.contents store.setting.end bytes new.contents → IfSome new.contents (HasRoot (root_by store))
+put-root old new store bytes order bears written = at old.contents new.contents bears written
+  where
+    at : (seen new : Option (List ℕ)) → HasByteAt seen store.setting.end × IfSome seen (HasRoot (root_by store))
+        → Written seen store.setting.end bytes new → IfSome new (HasRoot (root_by store))
+    at None new bears written = subst (λ s. IfSome s (HasRoot (root_by store))) (sym written) tt
+    at (Some file) new bears written =
+        let end = store.setting.end in
+        let behind = roots-start-behind file (root_by store) bears.1 in
+        let starts : end ≤ length file = omega (arith, bears.0) in
+        subst (λ s. IfSome s (HasRoot (root_by store))) (sym written)
+        (writes-leave-roots end (length bytes) (overlaid end bytes file) file (omega (arith, behind, order))
+        (torn-whole end bytes file starts) ∙ bears.1)
 
-module _ {D : Type 0} (seen : D → Option (List ℕ)) (image : D → List ℕ → Type 0) (moment : D → ℕ) (image_since : D → ℕ → List ℕ → Type 0)
-    (only_now : (disk : D) (c : List ℕ) → image_since disk (moment disk) c → image disk c) where
-  -- nothing was written
-  pub none-put : (old : D) (z : Setting) (events : List Event) → Stands (seen old) (image old) z → LeavesOnly moment image_since old old (HeldBetween z events)
-  none-put old z events stands =
-      started moment image_since old (HeldBetween z events) (λ c since. inl (stands-each (seen old) (image old) z stands c (only_now old c since)))
+-- nothing was written
+pub none-put : (old : DiskSeen) (z : Setting) (events : List Event) → IsLawful old → Stands old z → LeavesOnly old old (HeldBetween z events)
+none-put old z events lawful stands =
+    started old (HeldBetween z events) (λ c since. inl (stands.each c (lawful.only_now c since)))
 
-  -- at each moment of an append
-  pub put-moments : (old new : D) (z : Setting) (events : List Event) (vs : List (Vec ℕ Global)) → contents_of vs ≡ map (event_text z.state.version) events
-      → AreStored z.state.version (sessionless z.state) events
-      → IfSome (seen old) (λ _. ((c : List ℕ) → image old c → ClosedAt z.end c) → LeavesOnly moment image_since old new (Appending z.end (log_of (contents_of vs)) (image old)))
-      → Stands (seen old) (image old) z → LeavesOnly moment image_since old new (HeldBetween z events)
-  put-moments old new z events vs texts stored appending stands =
-      let each = stands-each (seen old) (image old) z stands in
-      let run = stands-told (seen old) (image old) z (((c : List ℕ) → image old c → ClosedAt z.end c) → LeavesOnly moment image_since old new (Appending z.end (log_of (contents_of vs)) (image old))) stands appending
-      (λ c left. held-gate c (stored_setting z) (each c left)) in
-      weaken moment image_since old new (Appending z.end (log_of (contents_of vs)) (image old)) (HeldBetween z events)
-      (λ c left. held-appending (image old) z events each stored c (subst (λ l. Appending z.end (log_of l) (image old) c) texts left)) run
+-- at each moment of an append
+pub put-moments : (old new : DiskSeen) (z : Setting) (events : List Event) (vs : List (Vec ℕ Global)) → contents_of vs ≡ map (event_text z.state.version) events
+    → AreStored z.state.version (sessionless z.state) events
+    → IfSome old.contents (λ _. ((c : List ℕ) → old.image c → ClosedAt z.end c) → LeavesOnly old new (Appending z.end (log_of (contents_of vs)) old.image))
+    → Stands old z → LeavesOnly old new (HeldBetween z events)
+put-moments old new z events vs texts stored appending stands =
+    let run = stands-told old z (((c : List ℕ) → old.image c → ClosedAt z.end c) → LeavesOnly old new (Appending z.end (log_of (contents_of vs)) old.image)) stands appending
+    (λ c left. held-gate c (stored_setting z) (stands.each c left)) in
+    weaken old new (Appending z.end (log_of (contents_of vs)) old.image) (HeldBetween z events)
+    (λ c left. held-appending old.image z events stands.each stored c (subst (λ l. Appending z.end (log_of l) old.image c) texts left)) run
 
 -- nothing was touched
-pub none-stored : {D : Type 0} {seen : D → Option (List ℕ)} {image : D → List ℕ → Type 0} {moment : D → ℕ} {image_since : D → ℕ → List ℕ → Type 0} {attached : D → Option (List (List ℕ × Bool))} {faults : D → ℕ} {old new : D} {before after : Seen} {events : List Event} {fault : StoreFault}
-    → ((disk : D) (c : List ℕ) → image_since disk (moment disk) c → image disk c) → new ≡ old → StoringEnds seen image old new before after events (Err fault) → (let answer : Result (Unit {0}) StoreFault = Err fault in is_disk_fault answer ≡ false)
-    → StoresEvents seen image moment image_since attached faults old new before after events (Err fault)
-none-stored {seen = seen} {image = image} {moment = moment} {image_since = image_since} {attached = attached} {faults = faults} {old = old} {new = new} {before = before} {events = events} only_now same ends no_disk =
+pub none-stored : {D : Type 0} {seen : D → DiskSeen} {old new : D} {before after : Seen} {events : List Event} {fault : StoreFault}
+    → IsLawful (seen old) → new ≡ old → StoringEnds seen old new before after events (Err fault) → (let answer : Result (Unit {0}) StoreFault = Err fault in is_disk_fault answer ≡ false)
+    → StoresEvents seen old new before after events (Err fault)
+none-stored {seen = seen} {old = old} {new = new} {before = before} {events = events} lawful same ends no_disk =
     record {
       ends = ends;
       stands = λ _. tt;
-      moments = λ stands. subst (λ d. LeavesOnly moment image_since old d (HeldBetween before.setting events)) (sym same) (none-put seen image moment image_since only_now old before.setting events stands);
-      names = ap attached same;
-      reported = subst (λ (b : Bool). ReportsFault b (faults old) (faults new)) (sym no_disk) (ap faults same);
+      moments = λ stands. subst (λ d. LeavesOnly (seen old) (seen d) (HeldBetween before.setting events)) (sym same) (none-put (seen old) before.setting events lawful stands);
+      names = ap (λ d. (seen d).attached) same;
+      reported = subst (λ (b : Bool). ReportsFault b (seen old).faults (seen new).faults) (sym no_disk) (ap (λ d. (seen d).faults) same);
     }

@@ -3,6 +3,7 @@ use Rattle.std.proofs.Common.{◌≡◌, ℕ, ◌-◌, ◌≤◌, List, length, 
 use Rattle.std.specs.declared.alloc.Global.{Global}
 use Rattle.std.specs.declared.option.Option.{Option}
 use Rattle.hac_disk.specs.Images.{IsQuiet}
+use Rattle.hac_disk.specs.Seen.{DiskSeen}
 use Rattle.hac_checkpoint.specs.Roots.{placed, root_of, IsRootSeen}
 use Rattle.hac_checkpoint.specs.declared.heads.Root.{Root}
 use Rattle.hac_checkpoint.specs.declared.heads.RootFault.{RootFault}
@@ -137,9 +138,8 @@ opens-rootless (Some file) root.Disk is = tt
 opens-rootless (Some file) (root.Bad at) is = root-fault file at is
 
 -- two quiet calls, one after the other
-pub quiet-twice : {D : Type 0} (seen : D → Option (List ℕ)) (image : D → List ℕ → Type 0) (moment : D → ℕ) (image_since : D → ℕ → List ℕ → Type 0) (old mid new : D)
-    → IsQuiet seen image moment image_since old mid → IsQuiet seen image moment image_since mid new → IsQuiet seen image moment image_since old new
-quiet-twice seen image moment image_since old mid new first second = record {
+pub quiet-twice : (old mid new : DiskSeen) → IsQuiet old mid → IsQuiet mid new → IsQuiet old new
+quiet-twice old mid new first second = record {
   same = second.same ∙ first.same;
   images = λ c left. first.images c (second.images c left);
   later = omega (arith, first.later, second.later);

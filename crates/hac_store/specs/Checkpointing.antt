@@ -1,9 +1,8 @@
 -- What becomes of a store and of its disk where its state is written as a new area.
-use Rattle.std.specs.Prelude.{◌≡◌, ℕ, Bool, true, List}
-use Rattle.std.specs.Prelude.{Option, None, Some, Result, Ok, Err, OnOk}
+use Rattle.std.specs.Prelude.{◌≡◌, ℕ, true, List, None, Some, Result, Ok, Err, OnOk}
 use Rattle.hac_checkpoint.specs.Flips.{other_slot}
-use Rattle.hac_disk.specs.Images.{LeavesOnly}
-use Rattle.hac_disk.specs.Contents.{IsSettled}
+use Rattle.hac_disk.specs.Images.{IsSettled, LeavesOnly}
+use Rattle.hac_disk.specs.Seen.{DiskSeen}
 use Rattle.hac_outside.specs.Causes.{ReportsFault}
 use Rattle.hac_model.specs.Run.Checkpoints.{checkpointed, next_place}
 use Rattle.hac_model.specs.Run.Play.{Setting}
@@ -23,36 +22,30 @@ abbrev pub HoldsState : State → List ℕ → Type 0
 HoldsState s c = (setting : Setting) × IsHeldAs c setting × (stored setting.state ≡ stored s)
 
 -- the new area is the live one, and last
-pub record IsCheckpointed (file : Option (List ℕ)) (image : List ℕ → Type 0)
-    (before after : Seen) (at : ℕ) : Type 0 where
+pub record IsCheckpointed (disk : DiskSeen) (before after : Seen) (at : ℕ) : Type 0 where
   pub free : next_place before.setting ≡ Some at
   pub store : after ≡ moved_to before at
-  pub settled : IsSettled file image
-  pub place : Bears file after
+  pub settled : IsSettled disk
+  pub place : Bears disk after
 
 -- After Ok the new area is live. After `Full` there was no place for it; after that and after `Memory` nothing was
 -- touched. After `Disk` the store is broken. No other answer is given.
-abbrev pub CheckpointEnds : {D : Type 0} (seen : D → Option (List ℕ)) (image : D → List ℕ → Type 0) (old new : D)
-    (before after : Seen) → Result Unit StoreFault → Type 0
-CheckpointEnds seen image old new before after (Ok _) = (at : ℕ) × IsCheckpointed (seen new) (image new) before after at
-CheckpointEnds seen image old new before after (Err Full) =
+abbrev pub CheckpointEnds : {D : Type 0} (seen : D → DiskSeen) (old new : D) (before after : Seen) → Result Unit StoreFault → Type 0
+CheckpointEnds seen old new before after (Ok _) = (at : ℕ) × IsCheckpointed (seen new) before after at
+CheckpointEnds seen old new before after (Err Full) =
     (next_place before.setting ≡ None) × ((after ≡ before) × (new ≡ old))
-CheckpointEnds seen image old new before after (Err Memory) = (after ≡ before) × (new ≡ old)
-CheckpointEnds seen image old new before after (Err Disk) =
+CheckpointEnds seen old new before after (Err Memory) = (after ≡ before) × (new ≡ old)
+CheckpointEnds seen old new before after (Err Disk) =
     (next_place before.setting ≡ None → ⊥) × (after ≡ record before { broken = true })
-CheckpointEnds seen image old new before after (Err (NotStore at)) = ⊥
-CheckpointEnds seen image old new before after (Err AlreadyStore) = ⊥
+CheckpointEnds seen old new before after (Err (NotStore at)) = ⊥
+CheckpointEnds seen old new before after (Err AlreadyStore) = ⊥
 
 -- What a checkpoint does. If the disk stood for the store, it does again after Ok, and a crash at each moment leaves a
 -- store with what is stored of its state.
-pub record Checkpoints {D : Type 0} (seen : D → Option (List ℕ)) (image : D → List ℕ → Type 0)
-    (moment : D → ℕ) (image_since : D → ℕ → List ℕ → Type 0)
-    (attached : D → Option (List (List ℕ × Bool))) (faults : D → ℕ) (old new : D)
-    (before after : Seen) (result : Result Unit StoreFault) : Type 0 where
-  pub ends : CheckpointEnds seen image old new before after result
-  pub stands : Stands (seen old) (image old) before.setting →
-      OnOk result (Stands (seen new) (image new) after.setting)
-  pub moments : Stands (seen old) (image old) before.setting →
-      LeavesOnly moment image_since old new (HoldsState before.setting.state)
-  pub names : attached new ≡ attached old
-  pub reported : ReportsFault (is_disk_fault result) (faults old) (faults new)
+pub record Checkpoints {D : Type 0} (seen : D → DiskSeen) (old new : D) (before after : Seen)
+    (result : Result Unit StoreFault) : Type 0 where
+  pub ends : CheckpointEnds seen old new before after result
+  pub stands : Stands (seen old) before.setting → OnOk result (Stands (seen new) after.setting)
+  pub moments : Stands (seen old) before.setting → LeavesOnly (seen old) (seen new) (HoldsState before.setting.state)
+  pub names : (seen new).attached ≡ (seen old).attached
+  pub reported : ReportsFault (is_disk_fault result) (seen old).faults (seen new).faults

@@ -1,7 +1,8 @@
 -- What is on a disk while a new store is made. Of a disk that tells nothing, nothing is said.
-use Rattle.std.specs.Prelude.{◌≡◌, ℕ, Bool, List, drop, take, None, Some, ⊤, Result, Ok, Err, IfOk, IfSome, IsErr, OnOk}
+use Rattle.std.specs.Prelude.{◌≡◌, ℕ, List, drop, take, None, Some, ⊤, Result, Ok, Err, IfOk, IfSome, IsErr, OnOk}
 use Rattle.std.specs.declared.option.Option.{Option}
 use Rattle.hac_disk.specs.Images.{IsQuiet}
+use Rattle.hac_disk.specs.Seen.{DiskSeen}
 use Rattle.hac_model.specs.Run.Play.{new_setting}
 use Rattle.hac_outside.specs.Causes.{ReportsFault}
 use Rattle.hac_store.specs.Faults.{is_disk_fault}
@@ -34,14 +35,11 @@ IsReady file = take 64 (drop 1 file) ≡ drop 1 NEW
 
 -- What making a store does: after Ok the disk holds the root alone and bears the first store, and where memory ran out
 -- nothing was written.
-pub record Creates {D : Type 0} (seen : D → Option (List ℕ)) (image : D → List ℕ → Type 0)
-    (moment : D → ℕ) (image_since : D → ℕ → List ℕ → Type 0)
-    (attached : D → Option (List (List ℕ × Bool))) (faults : D → ℕ) (old new : D)
-    (result : Result Seen StoreFault) : Type 0 where
+pub record Creates (old new : DiskSeen) (result : Result Seen StoreFault) : Type 0 where
   pub store : IfOk result (λ store. store ≡ first_store)
-  pub stands : IfSome (seen old) (λ _. OnOk result (Stands (seen new) (image new) new_setting))
-  pub place : IfOk result (λ store. Bears (seen new) store)
-  pub unwritten : result ≡ Err Memory → IsQuiet seen image moment image_since old new
+  pub stands : IfSome old.contents (λ _. OnOk result (Stands new new_setting))
+  pub place : IfOk result (Bears new)
+  pub unwritten : result ≡ Err Memory → IsQuiet old new
   pub kind : ((at : ℕ) → result ≡ Err (NotStore at) → ⊥) × (result ≡ Err Full → ⊥)
-  pub names : attached new ≡ attached old
-  pub reported : ReportsFault (is_disk_fault result) (faults old) (faults new)
+  pub names : new.attached ≡ old.attached
+  pub reported : ReportsFault (is_disk_fault result) old.faults new.faults

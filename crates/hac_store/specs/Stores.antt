@@ -1,5 +1,5 @@
 -- A store as it is seen, and what a crash may leave of it.
-use Rattle.std.specs.Prelude.{◌≡◌, ◌⊎◌, ◌||◌, ◌==◌, ◌+◌, ◌*◌, nat_lt, ⊤, ℕ, Bool, IsTrue, false, List, [], ◌∷◌, Option, None, Some, Result, Ok, Err, IfSome, refl}
+use Rattle.std.specs.Prelude.{◌≡◌, ◌⊎◌, ◌||◌, ◌==◌, ◌+◌, ◌*◌, nat_lt, ⊤, ℕ, Bool, IsTrue, false, List, [], ◌∷◌, Some, Result, Ok, Err, IfSome, refl}
 use Rattle.std.specs.Coded.{Coded, code_by, coded×, coded_bool, coded_ℕ}
 use Rattle.hac_checkpoint.specs.Flips.{HasRoot}
 use Rattle.hac_checkpoint.specs.contracts.heads.Slot as slot
@@ -7,6 +7,7 @@ use Rattle.hac_checkpoint.specs.declared.heads.Root.{Root}
 use Rattle.hac_checkpoint.specs.declared.heads.Slot.{Slot}
 use Rattle.hac_checkpoint.specs.declared.heads.Slot.TheVariants.{A}
 use Rattle.hac_disk.specs.Contents.{HasByteAt}
+use Rattle.hac_disk.specs.Seen.{DiskSeen}
 use Rattle.hac_model.specs.Run.Play.{Setting, after_events, new_setting, stored_setting}
 use Rattle.hac_model.specs.Tree.Events.{apply}
 use Rattle.hac_model.specs.Tree.Sessions.{is_stored}
@@ -65,17 +66,18 @@ abbrev pub root_by : Seen → Root
 root_by store = record { slot = store.slot; generation = store.setting.generation; start = store.setting.start }
 
 -- the disk bears the store: where it tells its bytes, it has the gate behind the log, and this root counts
-abbrev pub Bears : Option (List ℕ) → Seen → Type 0
-Bears seen store = HasByteAt seen store.setting.end × IfSome seen (HasRoot (root_by store))
+abbrev pub Bears : DiskSeen → Seen → Type 0
+Bears disk store = HasByteAt disk.contents store.setting.end × IfSome disk.contents (HasRoot (root_by store))
 
 -- what a file holds has this setting
 abbrev pub IsHeldAs : List ℕ → Setting → Type 0
 IsHeldAs image setting = held image ≡ Ok setting
 
 -- the disk tells its bytes, and whatever a crash leaves of them holds what is stored of this
-abbrev pub Stands : Option (List ℕ) → (List ℕ → Type 0) → Setting → Type 0
-Stands None image setting = ⊥
-Stands (Some file) image setting = (c : List ℕ) → image c → IsHeldAs c (stored_setting setting)
+pub record Stands (disk : DiskSeen) (setting : Setting) : Type 0 where
+  pub file : List ℕ
+  pub is : disk.contents ≡ Some file
+  pub each : (c : List ℕ) → disk.image c → IsHeldAs c (stored_setting setting)
 
 -- it holds what was stored before events, or what they make of that: all of them happened, or none
 abbrev pub HeldBetween : Setting → List Event → List ℕ → Type 0

@@ -1,7 +1,8 @@
 -- What becomes of a store and of its disk where events are stored.
-use Rattle.std.specs.Prelude.{◌≡◌, ℕ, if◌then◌else◌, Bool, true, false, List, Option, Result, Ok, Err, OnOk, map}
-use Rattle.hac_disk.specs.Images.{LeavesOnly}
-use Rattle.hac_disk.specs.Contents.{IsSettled, Written}
+use Rattle.std.specs.Prelude.{◌≡◌, ℕ, if◌then◌else◌, true, false, List, Result, Ok, Err, OnOk, map}
+use Rattle.hac_disk.specs.Images.{IsSettled, LeavesOnly}
+use Rattle.hac_disk.specs.Contents.{Written}
+use Rattle.hac_disk.specs.Seen.{DiskSeen}
 use Rattle.hac_outside.specs.Causes.{ReportsFault}
 use Rattle.hac_journal.specs.Records.{log_of}
 use Rattle.hac_model.specs.Payload.Payloads.{event_text}
@@ -18,33 +19,29 @@ abbrev pub storing_cost : Setting → List Event → ℕ
 storing_cost setting events = if have_room setting events then costs setting.state events else 0
 
 -- all events happened: their records were written behind the log, and last
-pub record AllStored (file new_file : Option (List ℕ)) (image : List ℕ → Type 0) (before after : Seen) (events : List Event) : Type 0 where
+pub record AllStored (old new : DiskSeen) (before after : Seen) (events : List Event) : Type 0 where
   pub room : have_room before.setting events ≡ true
   pub store : after ≡ store_after before events
-  pub written : Written file before.setting.end (log_of (map (event_text before.setting.state.version) events)) new_file
-  pub settled : IsSettled new_file image
-  pub place : Bears new_file after
+  pub written : Written old.contents before.setting.end (log_of (map (event_text before.setting.state.version) events)) new.contents
+  pub settled : IsSettled new
+  pub place : Bears new after
 
 -- After Ok all events happened. After `Full` there was no room for them; after it and after `Memory` nothing was
 -- touched. After `Disk` the store is broken. No other answer is given.
-abbrev pub StoringEnds : {D : Type 0} (seen : D → Option (List ℕ)) (image : D → List ℕ → Type 0) (old new : D) (before after : Seen) (events : List Event) → Result Unit StoreFault → Type 0
-StoringEnds seen image old new before after events (Ok _) = AllStored (seen old) (seen new) (image new) before after events
-StoringEnds seen image old new before after events (Err Full) = (have_room before.setting events ≡ false) × ((after ≡ before) × (new ≡ old))
-StoringEnds seen image old new before after events (Err Memory) = (after ≡ before) × (new ≡ old)
-StoringEnds seen image old new before after events (Err Disk) = (have_room before.setting events ≡ true) × (after ≡ record before { broken = true })
-StoringEnds seen image old new before after events (Err (NotStore at)) = ⊥
-StoringEnds seen image old new before after events (Err AlreadyStore) = ⊥
+abbrev pub StoringEnds : {D : Type 0} (seen : D → DiskSeen) (old new : D) (before after : Seen) (events : List Event) → Result Unit StoreFault → Type 0
+StoringEnds seen old new before after events (Ok _) = AllStored (seen old) (seen new) before after events
+StoringEnds seen old new before after events (Err Full) = (have_room before.setting events ≡ false) × ((after ≡ before) × (new ≡ old))
+StoringEnds seen old new before after events (Err Memory) = (after ≡ before) × (new ≡ old)
+StoringEnds seen old new before after events (Err Disk) = (have_room before.setting events ≡ true) × (after ≡ record before { broken = true })
+StoringEnds seen old new before after events (Err (NotStore at)) = ⊥
+StoringEnds seen old new before after events (Err AlreadyStore) = ⊥
 
 -- What storing events does. If the disk stood for the store, it does again after Ok, and a crash at each moment leaves
 -- the store from before, or the one behind all events.
-pub record StoresEvents {D : Type 0} (seen : D → Option (List ℕ)) (image : D → List ℕ → Type 0)
-    (moment : D → ℕ) (image_since : D → ℕ → List ℕ → Type 0)
-    (attached : D → Option (List (List ℕ × Bool))) (faults : D → ℕ) (old new : D)
-    (before after : Seen) (events : List Event) (result : Result Unit StoreFault) : Type 0 where
-  pub ends : StoringEnds seen image old new before after events result
-  pub stands : Stands (seen old) (image old) before.setting →
-      OnOk result (Stands (seen new) (image new) after.setting)
-  pub moments : Stands (seen old) (image old) before.setting →
-      LeavesOnly moment image_since old new (HeldBetween before.setting events)
-  pub names : attached new ≡ attached old
-  pub reported : ReportsFault (is_disk_fault result) (faults old) (faults new)
+pub record StoresEvents {D : Type 0} (seen : D → DiskSeen) (old new : D) (before after : Seen)
+    (events : List Event) (result : Result Unit StoreFault) : Type 0 where
+  pub ends : StoringEnds seen old new before after events result
+  pub stands : Stands (seen old) before.setting → OnOk result (Stands (seen new) after.setting)
+  pub moments : Stands (seen old) before.setting → LeavesOnly (seen old) (seen new) (HeldBetween before.setting events)
+  pub names : (seen new).attached ≡ (seen old).attached
+  pub reported : ReportsFault (is_disk_fault result) (seen old).faults (seen new).faults

@@ -35,8 +35,8 @@ impl Store {
         requires intact { self.old.broken ≡ false }
         requires can { CanSettle self.old.setting.state (Settled.Change change) }
         requires place { Bears (D.seen disk.old) self.old }
-        ensures stores { StoresEvents D.seen D.image D.moment D.image_since D.attached D.faults
-            disk.old disk.new self.old self.new (change.event ∷ []) result }
+        ensures stores { StoresEvents D.seen disk.old disk.new self.old self.new
+            (change.event ∷ []) result }
         ensures probes { probes.new ≤ probes.old
             + storing_cost self.old.setting (change.event ∷ []) }
     {
@@ -67,8 +67,8 @@ impl Store {
         requires some { 0 < count }
         requires happen { AllHappen self.old.setting.state (replicate count event.Step) }
         requires place { Bears (D.seen disk.old) self.old }
-        ensures stores { StoresEvents D.seen D.image D.moment D.image_since D.attached D.faults
-            disk.old disk.new self.old self.new (replicate count event.Step) result }
+        ensures stores { StoresEvents D.seen disk.old disk.new self.old self.new
+            (replicate count event.Step) result }
         ensures room { have_room self.old.setting (replicate count event.Step) ≡ false →
             IsErrOf result StoreFault.Full }
         ensures probes { probes.new ≤ probes.old
@@ -110,8 +110,8 @@ impl Store {
         requires texts { contents_of payloads.now ≡ map
             (event_text self.old.setting.state.version) (settled_events settled) }
         requires place { Bears (D.seen disk.old) self.old }
-        ensures stores { StoresEvents D.seen D.image D.moment D.image_since D.attached D.faults
-            disk.old disk.new self.old self.new (settled_events settled) result }
+        ensures stores { StoresEvents D.seen disk.old disk.new self.old self.new
+            (settled_events settled) result }
         ensures probes { probes.new ≤ probes.old
             + costs self.old.setting.state (settled_events settled) }
     {

@@ -29,14 +29,16 @@ pub(crate) struct Begun {
 /// Begins to read an area: if its first record is a whole state, the log goes on behind it, else it
 /// goes on from the root alone, with that record, whose kind tells the version.
 pub(crate) fn begin<D: Disk>(alloc: Global, disk: &mut D, start: u64) -> Result<Begun, StoreFault>
-    ensures area { IfSome (D.seen disk.old) (λ file. BeginsArea result file (area start file)) }
-    ensures loads { IfSome (D.seen disk.old) (λ file. IfOk result
+    ensures area { IfSome (D.seen disk.old).contents (λ file. BeginsArea result file
+        (area start file)) }
+    ensures loads { IfSome (D.seen disk.old).contents (λ file. IfOk result
         (λ begun. loading_area start file ≡ replaying begun.replay begun.at file)) }
     ensures ahead { IfOk result (λ begun. start ≤ begun.at) }
-    ensures quiet { IsQuiet D.seen D.image D.moment D.image_since disk.old disk.new }
+    ensures quiet { IsQuiet (D.seen disk.old) (D.seen disk.new) }
     ensures kind { (result ≡ Err StoreFault.AlreadyStore → ⊥) × (result ≡ Err StoreFault.Full → ⊥) }
-    ensures attached { D.attached disk.new ≡ D.attached disk.old }
-    ensures faults { ReportsFault (is_disk_fault result) (D.faults disk.old) (D.faults disk.new) }
+    ensures attached { (D.seen disk.new).attached ≡ (D.seen disk.old).attached }
+    ensures faults { ReportsFault (is_disk_fault result) (D.seen disk.old).faults
+        (D.seen disk.new).faults }
 {
     match next(alloc, disk, start)? {
         Next::Entry { payload, next } => begin_behind(alloc, start, &payload, next),

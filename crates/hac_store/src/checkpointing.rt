@@ -25,8 +25,7 @@ impl Store {
     pub fn checkpoint<D: Disk>(&mut self, disk: &mut D) -> Result<(), StoreFault>
         requires intact { self.old.broken ≡ false }
         requires place { Bears (D.seen disk.old) self.old }
-        ensures { Checkpoints D.seen D.image D.moment D.image_since D.attached D.faults disk.old
-            disk.new self.old self.new result }
+        ensures { Checkpoints D.seen disk.old disk.new self.old self.new result }
     {
         let payload = self.state_payload()?;
         match self.place_of(payload.len() as u64) {
@@ -74,19 +73,19 @@ impl Store {
         requires text { payload.now ≡ state_text (raised self.now.setting.state) }
         requires place { Bears (D.seen disk.old) self.now }
         ensures end { IfOk result (λ end. end ≡ at + 5 + length payload.now) }
-        ensures made { OnOk result (IsCheckpointed (D.seen disk.new) (D.image disk.new) self.now
+        ensures made { OnOk result (IsCheckpointed (D.seen disk.new) self.now
             (moved_to self.now at) at) }
-        ensures stands { Stands (D.seen disk.old) (D.image disk.old) self.now.setting →
-            OnOk result (Stands (D.seen disk.new) (D.image disk.new)
+        ensures stands { Stands (D.seen disk.old) self.now.setting →
+            OnOk result (Stands (D.seen disk.new)
             (moved_to self.now at).setting) }
 
         // At each moment a crash leaves the old area or the new one.
-        ensures any_moment { Stands (D.seen disk.old) (D.image disk.old) self.now.setting →
-            LeavesOnly D.moment D.image_since disk.old disk.new
+        ensures any_moment { Stands (D.seen disk.old) self.now.setting →
+            LeavesOnly (D.seen disk.old) (D.seen disk.new)
             (HoldsState self.now.setting.state) }
 
-        ensures attached { D.attached disk.new ≡ D.attached disk.old }
-        ensures cause { HasCause (D.faults disk.old) (D.faults disk.new) result }
+        ensures attached { (D.seen disk.new).attached ≡ (D.seen disk.old).attached }
+        ensures cause { HasCause (D.seen disk.old).faults (D.seen disk.new).faults result }
     {
         let live = self.root();
         let end = write_area(disk, at, payload)?;

@@ -1,8 +1,8 @@
 //! Making a new store: all of it is written behind a closed gate, which is then opened.
 ghost use Rattle.std.specs.Prelude.{◌≡◌, ◌⊎◌, ◌≤◌, ◌+◌, Err, IfSome, IsErr, IsOk, OnOk};
 ghost use Rattle.hac_outside.specs.Causes.{HasCause};
-ghost use Rattle.hac_disk.specs.Images.{IsQuiet, LeavesOnly};
-ghost use Rattle.hac_disk.specs.Contents.{HasByteAt, IsSettled};
+ghost use Rattle.hac_disk.specs.Images.{IsQuiet, IsSettled, LeavesOnly};
+ghost use Rattle.hac_disk.specs.Contents.{HasByteAt};
 ghost use Rattle.hac_journal.specs.Appending.{ClosedAt};
 ghost use Rattle.hac_model.specs.Run.Play.{new_setting};
 ghost use Rattle.hac_store.specs.Creating.{Becomes, Creates, IsReady, HoldsNone, none_in};
@@ -34,19 +34,18 @@ impl Store {
         disk: &mut D,
         probes: &mut Steps<L>,
     ) -> Result<Store, StoreFault>
-        ensures creates { Creates D.seen D.image D.moment D.image_since D.attached D.faults disk.old
-            disk.new result }
-        ensures new { IfSome (D.seen disk.old) (λ file. OnOk result (IsErr (held file))) }
-        ensures already { IfSome (D.seen disk.old)
+        ensures creates { Creates (D.seen disk.old) (D.seen disk.new) result }
+        ensures new { IfSome (D.seen disk.old).contents (λ file. OnOk result (IsErr (held file))) }
+        ensures already { IfSome (D.seen disk.old).contents
             (λ file. result ≡ Err StoreFault.AlreadyStore → IsOk (held file)) }
-        ensures quiet { IfSome (D.seen disk.old) (λ file. IsOk (held file) →
-            IsQuiet D.seen D.image D.moment D.image_since disk.old disk.new) }
+        ensures quiet { IfSome (D.seen disk.old).contents (λ file. IsOk (held file) →
+            IsQuiet (D.seen disk.old) (D.seen disk.new)) }
         // At each moment a crash leaves what it might have left before, or the root alone, or no
         // store.
-        ensures any_moment { IfSome (D.seen disk.old) (λ file. IsErr (held file) →
-            LeavesOnly D.moment D.image_since disk.old disk.new
-            (λ c. D.image disk.old c ⊎ IsNewOrNone c)) }
-        ensures probes { IfSome (D.seen disk.old)
+        ensures any_moment { IfSome (D.seen disk.old).contents (λ file. IsErr (held file) →
+            LeavesOnly (D.seen disk.old) (D.seen disk.new)
+            (λ c. (D.seen disk.old).image c ⊎ IsNewOrNone c)) }
+        ensures probes { IfSome (D.seen disk.old).contents
             (λ file. probes.new ≤ probes.old + loading file) }
     {
         disk.sync()?;
@@ -68,12 +67,11 @@ fn none(found: Option<StoreFault>) -> Result<(), StoreFault>
 
 // Makes a new store over a file that holds none.
 fn new_store<D: Disk>(alloc: Global, disk: &mut D) -> Result<Store, StoreFault>
-    requires settled { IsSettled (D.seen disk.old) (D.image disk.old) }
-    requires unheld { HoldsNone (D.seen disk.old) }
-    ensures creates { Creates D.seen D.image D.moment D.image_since D.attached D.faults disk.old
-        disk.new result }
-    ensures any_moment { IfSome (D.seen disk.old)
-        (λ _. LeavesOnly D.moment D.image_since disk.old disk.new IsNewOrNone) }
+    requires settled { IsSettled (D.seen disk.old) }
+    requires unheld { HoldsNone (D.seen disk.old).contents }
+    ensures creates { Creates (D.seen disk.old) (D.seen disk.new) result }
+    ensures any_moment { IfSome (D.seen disk.old).contents
+        (λ _. LeavesOnly (D.seen disk.old) (D.seen disk.new) IsNewOrNone) }
     ensures none { result ≡ Err StoreFault.AlreadyStore → ⊥ }
 {
     let machine = Machine::new(alloc, Version::Two)?;
@@ -96,15 +94,15 @@ fn new_store<D: Disk>(alloc: Global, disk: &mut D) -> Result<Store, StoreFault>
 
 // Writes the bytes of a new store over a file that holds none.
 fn write_new<D: Disk>(disk: &mut D) -> Result<(), Failed>
-    requires settled { IsSettled (D.seen disk.old) (D.image disk.old) }
-    requires unheld { HoldsNone (D.seen disk.old) }
-    ensures stands { IfSome (D.seen disk.old) (λ _. OnOk result
-        (Stands (D.seen disk.new) (D.image disk.new) new_setting)) }
+    requires settled { IsSettled (D.seen disk.old) }
+    requires unheld { HoldsNone (D.seen disk.old).contents }
+    ensures stands { IfSome (D.seen disk.old).contents (λ _. OnOk result
+        (Stands (D.seen disk.new) new_setting)) }
     ensures place { OnOk result (Bears (D.seen disk.new) first_store) }
-    ensures any_moment { IfSome (D.seen disk.old)
-        (λ _. LeavesOnly D.moment D.image_since disk.old disk.new IsNewOrNone) }
-    ensures attached { D.attached disk.new ≡ D.attached disk.old }
-    ensures cause { HasCause (D.faults disk.old) (D.faults disk.new) result }
+    ensures any_moment { IfSome (D.seen disk.old).contents
+        (λ _. LeavesOnly (D.seen disk.old) (D.seen disk.new) IsNewOrNone) }
+    ensures attached { (D.seen disk.new).attached ≡ (D.seen disk.old).attached }
+    ensures cause { HasCause (D.seen disk.old).faults (D.seen disk.new).faults result }
 {
     write_head(disk)?;
     write_stable(disk, 0, &[OPEN])
@@ -112,14 +110,15 @@ fn write_new<D: Disk>(disk: &mut D) -> Result<(), Failed>
 
 // Writes all of a new store but its open gate.
 fn write_head<D: Disk>(disk: &mut D) -> Result<(), Failed>
-    requires settled { IsSettled (D.seen disk.old) (D.image disk.old) }
-    requires unheld { HoldsNone (D.seen disk.old) }
-    ensures ready { OnOk result (Becomes (D.seen disk.old) IsReady (D.seen disk.new)) }
-    ensures settled { OnOk result (IsSettled (D.seen disk.new) (D.image disk.new)) }
-    ensures any_moment { IfSome (D.seen disk.old)
-        (λ _. LeavesOnly D.moment D.image_since disk.old disk.new IsNewOrNone) }
-    ensures attached { D.attached disk.new ≡ D.attached disk.old }
-    ensures cause { HasCause (D.faults disk.old) (D.faults disk.new) result }
+    requires settled { IsSettled (D.seen disk.old) }
+    requires unheld { HoldsNone (D.seen disk.old).contents }
+    ensures ready { OnOk result (Becomes (D.seen disk.old).contents IsReady
+        (D.seen disk.new).contents) }
+    ensures settled { OnOk result (IsSettled (D.seen disk.new)) }
+    ensures any_moment { IfSome (D.seen disk.old).contents
+        (λ _. LeavesOnly (D.seen disk.old) (D.seen disk.new) IsNewOrNone) }
+    ensures attached { (D.seen disk.new).attached ≡ (D.seen disk.old).attached }
+    ensures cause { HasCause (D.seen disk.old).faults (D.seen disk.new).faults result }
 {
     if disk.len()? == 0 {
         return write_stable(disk, 0, &NEW);
@@ -130,15 +129,16 @@ fn write_head<D: Disk>(disk: &mut D) -> Result<(), Failed>
 
 // Closes the gate of the store, where it is open.
 fn close<D: Disk>(disk: &mut D) -> Result<(), Failed>
-    requires some { HasByteAt (D.seen disk.old) 0 }
-    requires settled { IsSettled (D.seen disk.old) (D.image disk.old) }
-    requires unheld { HoldsNone (D.seen disk.old) }
-    ensures shut { OnOk result (Becomes (D.seen disk.old) (ClosedAt 0) (D.seen disk.new)) }
-    ensures settled { OnOk result (IsSettled (D.seen disk.new) (D.image disk.new)) }
-    ensures any_moment { IfSome (D.seen disk.old)
-        (λ _. LeavesOnly D.moment D.image_since disk.old disk.new IsNewOrNone) }
-    ensures attached { D.attached disk.new ≡ D.attached disk.old }
-    ensures cause { HasCause (D.faults disk.old) (D.faults disk.new) result }
+    requires some { HasByteAt (D.seen disk.old).contents 0 }
+    requires settled { IsSettled (D.seen disk.old) }
+    requires unheld { HoldsNone (D.seen disk.old).contents }
+    ensures shut { OnOk result (Becomes (D.seen disk.old).contents (ClosedAt 0)
+        (D.seen disk.new).contents) }
+    ensures settled { OnOk result (IsSettled (D.seen disk.new)) }
+    ensures any_moment { IfSome (D.seen disk.old).contents
+        (λ _. LeavesOnly (D.seen disk.old) (D.seen disk.new) IsNewOrNone) }
+    ensures attached { (D.seen disk.new).attached ≡ (D.seen disk.old).attached }
+    ensures cause { HasCause (D.seen disk.old).faults (D.seen disk.new).faults result }
 {
     let mut gate = [OPEN];
     disk.read_at(0, &mut gate)?;

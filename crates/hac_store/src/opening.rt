@@ -2,8 +2,8 @@
 ghost use Rattle.std.specs.Prelude.{◌≡◌, ◌+◌, ◌<◌, ◌≤◌, ◌^◌, false, length, Ok, Err, IfOk};
 ghost use Rattle.std.specs.Prelude.{IfErr, IfSome, IsTrue, OnOk};
 ghost use Rattle.hac_outside.specs.Causes.{ReportsFault};
-ghost use Rattle.hac_disk.specs.Images.{IsQuiet};
-ghost use Rattle.hac_disk.specs.Contents.{HasByteAt, IsSettled};
+ghost use Rattle.hac_disk.specs.Images.{IsQuiet, IsSettled};
+ghost use Rattle.hac_disk.specs.Contents.{HasByteAt};
 ghost use Rattle.hac_model.specs.Payload.Payloads.{spelled};
 ghost use Rattle.hac_model.specs.Tree.Costs.{opening, weight};
 ghost use Rattle.hac_model.specs.Tree.Sessions.{is_stored};
@@ -36,13 +36,12 @@ impl Store {
         disk: &mut D,
         probes: &mut Steps<L>,
     ) -> Result<Store, StoreFault>
-        ensures loads { Loads D.seen D.image D.moment D.image_since D.attached D.faults disk.old
-            disk.new probes.old probes.new result }
+        ensures loads { Loads (D.seen disk.old) (D.seen disk.new) probes.old probes.new result }
         ensures sound { IfOk result (λ store. (store.broken ≡ false) ×
             IsValid store.setting.state) }
-        ensures stands { IfSome (D.seen disk.old) (λ _. IfOk result
-            (λ store. Stands (D.seen disk.new) (D.image disk.new) store.setting)) }
-        ensures settled { OnOk result (IsSettled (D.seen disk.new) (D.image disk.new)) }
+        ensures stands { IfSome (D.seen disk.old).contents (λ _. IfOk result
+            (λ store. Stands (D.seen disk.new) store.setting)) }
+        ensures settled { OnOk result (IsSettled (D.seen disk.new)) }
     {
         disk.sync()?;
         match read_unlinked(alloc, disk, probes) {
@@ -115,10 +114,9 @@ pub(crate) fn read_unlinked<D: Disk, L: Ledger>(
     disk: &mut D,
     probes: &mut Steps<L>,
 ) -> Result<Unlinked, StoreFault>
-    ensures loads { Loads D.seen D.image D.moment D.image_since D.attached D.faults disk.old
-        disk.new probes.old probes.new result }
+    ensures loads { Loads (D.seen disk.old) (D.seen disk.new) probes.old probes.new result }
     // What is left is enough to find the links.
-    ensures opens { IfSome (D.seen disk.old) (λ file. IfOk result (λ unlinked.
+    ensures opens { IfSome (D.seen disk.old).contents (λ file. IfOk result (λ unlinked.
         probes.new + opening unlinked.setting.state ≤ probes.old + loading file)) }
 {
     let root = roots(disk)?;
@@ -145,19 +143,20 @@ fn read_log<D: Disk, L: Ledger>(
     start: u64,
     probes: &mut Steps<L>,
 ) -> Result<u64, StoreFault>
-    ensures log { IfSome (D.seen disk.old) (λ file. ReadsLog result replay.new file
+    ensures log { IfSome (D.seen disk.old).contents (λ file. ReadsLog result replay.new file
         (log replay.old start file)) }
     ensures ahead { IfOk result (λ end. start ≤ end) }
-    ensures place { IfOk result (λ end. HasByteAt (D.seen disk.new) end) }
-    ensures quiet { IsQuiet D.seen D.image D.moment D.image_since disk.old disk.new }
+    ensures place { IfOk result (λ end. HasByteAt (D.seen disk.new).contents end) }
+    ensures quiet { IsQuiet (D.seen disk.old) (D.seen disk.new) }
     ensures kind { (result ≡ Err StoreFault.AlreadyStore → ⊥) × (result ≡ Err StoreFault.Full → ⊥) }
-    ensures attached { D.attached disk.new ≡ D.attached disk.old }
-    ensures faults { ReportsFault (is_disk_fault result) (D.faults disk.old) (D.faults disk.new) }
-    ensures probes { IfSome (D.seen disk.old) (λ file. probes.new ≤ probes.old
+    ensures attached { (D.seen disk.new).attached ≡ (D.seen disk.old).attached }
+    ensures faults { ReportsFault (is_disk_fault result) (D.seen disk.old).faults
+        (D.seen disk.new).faults }
+    ensures probes { IfSome (D.seen disk.old).contents (λ file. probes.new ≤ probes.old
         + replaying replay.old start file) }
 
     // What is left is enough to find the links of the state to which the log led.
-    ensures opens { OnOk result (IfSome (D.seen disk.old) (λ file. probes.new
+    ensures opens { OnOk result (IfSome (D.seen disk.old).contents (λ file. probes.new
         + opening replay.new ≤ probes.old + replaying replay.old start file)) }
 {
     let mut reader = LogReader::new(alloc);

@@ -1,6 +1,7 @@
 //! The store itself: what it is made of, and what it says.
 ghost use Rattle.std.specs.Prelude.{◌≡◌, replicate};
 ghost use Rattle.hac_model.specs.Run.Play.{have_room};
+ghost use Rattle.hac_model.specs.Tree.Valid.{IsValid};
 ghost use Rattle.hac_model.specs.declared.events.Event.TheVariants as event;
 ghost use Rattle.hac_store.specs.Stores.{fit_behind};
 
@@ -50,7 +51,8 @@ impl Model for Store {
 impl Store {
     /// The tree, for commands to be tested against it and answered from it.
     pub fn machine(&self) -> &Machine
-        ensures { result.now.state ≡ self.now.setting.state }
+        ensures state { result.now.state ≡ self.now.setting.state }
+        ensures valid { IsValid result.now.state }
     {
         &self.machine
     }

@@ -2,6 +2,7 @@
 use Rattle.std.proofs.Common.{◌≡◌, ℕ, zero, suc, ◌≤◌, rules, true, false, Bool, List, [], ◌∷◌, ◌++◌, length, take, ◌+◌, refl, ap, sym, subst, ◌∙◌, append-nil, arith, inl, inr}
 use Rattle.std.specs.Prelude.{◌⊎◌, ◌||◌, if◌then◌else◌, filter, Option, None, Some, Result, Ok, Err, IfErr, OnOk}
 use Rattle.std.specs.Option.{IfSome}
+use Rattle.hac_disk.specs.Seen.{DiskSeen, IsLawful}
 use Rattle.hac_disk.proofs.Moments.{then_run, weaken}
 use Rattle.hac_model.specs.Run.Costs.{answering_line}
 use Rattle.hac_model.specs.Tree.Costs.{costs}
@@ -19,7 +20,6 @@ use Rattle.hac_model.specs.declared.states.State.{State}
 use Rattle.hac_model.proofs.PlayLemmas.{apply_all-append, stored-all}
 use Rattle.hac_outside.specs.Seen.{SinkSeen}
 use Rattle.hac_store.specs.Stores.{Bears, Seen, Stands}
-use Rattle.hac_store.proofs.PutLemmas.{stands-each}
 use Rattle.hac_store.specs.declared.fault.StoreFault.{StoreFault}
 use Rattle.hac_store.specs.declared.fault.StoreFault.TheVariants as fault
 use Rattle.hac_top.specs.Asking.{given_by}
@@ -107,172 +107,204 @@ told-alike : (P Q : Contents → Type 0) (o : Option Contents) → ((contents : 
 told-alike P Q None then_q p = search rules
 told-alike P Q (Some contents) then_q p = then_q contents p
 
-module _ {D : Type 0} {seen : D → Option (List ℕ)} {image : D → List ℕ → Type 0} {moment : D → ℕ} {image_since : D → ℕ → List ℕ → Type 0} {attached : D → Option (List (List ℕ × Bool))} {faults : D → ℕ} where
-  -- a store that went on by events, and then by more
-  stores-then : (old mid new : D) (z w : Setting) (xs ys : List Event) (failed : Bool) → Stores seen image moment image_since attached faults old mid z xs false →
-      (Stands (seen old) (image old) z → Stands (seen mid) (image mid) w) → stored w.state ≡ apply_all (stored z.state) xs →
-      Stores seen image moment image_since attached faults mid new w ys failed → Stores seen image moment image_since attached faults old new z (xs ++ ys) failed
-  stores-then old mid new z w xs ys failed before stands led after =
-      let all = Holds (IsTreeAfter (stored z.state) (xs ++ ys)) in
+-- a store that went on by events, and then by more
+stores-then : (old mid new : DiskSeen) (z w : Setting) (xs ys : List Event) (failed : Bool) → Stores old mid z xs false →
+    (Stands old z → Stands mid w) → stored w.state ≡ apply_all (stored z.state) xs →
+    Stores mid new w ys failed → Stores old new z (xs ++ ys) failed
+stores-then old mid new z w xs ys failed before stands led after =
+    let all = Holds (IsTreeAfter (stored z.state) (xs ++ ys)) in
+    record {
+      moments = λ stood.
+          then_run old mid new all
+          (weaken old mid (Holds (IsTreeAfter (stored z.state) xs)) all
+          (λ c holds. holds-weaker (IsTreeAfter (stored z.state) xs) (IsTreeAfter (stored z.state) (xs ++ ys)) c (λ s tree. tree-more (stored z.state) s xs ys tree) holds) (before.moments stood))
+          (weaken mid new (Holds (IsTreeAfter (stored w.state) ys)) all
+          (λ c holds. holds-weaker (IsTreeAfter (stored w.state) ys) (IsTreeAfter (stored z.state) (xs ++ ys)) c (λ s tree. tree-then (stored z.state) (stored w.state) s xs ys led tree) holds) (after.moments (stands stood)));
+      names = after.names ∙ before.names;
+      reported = told-since failed old.faults mid.faults new.faults before.reported after.reported;
+    }
+
+-- the same events, in other words
+stores-same : (old new : DiskSeen) (setting : Setting) (xs ys : List Event) (failed : Bool) → xs ≡ ys → Stores old new setting xs failed → Stores old new setting ys failed
+stores-same old new setting xs ys failed same stores = subst (λ (es : List Event). Stores old new setting es failed) same stores
+
+-- A reply, and the steps behind it.
+
+-- the reply couldn't be written whole
+pub reply-stops : (disk : DiskSeen) → IsLawful disk → (store : Seen) (tick : ℕ) (reply : Reply) (sink sink_after : SinkSeen) (status : Status) →
+    StopsWriting status sink sink_after (turns_text (told_turn tick store.setting reply ∷ [])) →
+    StopsAnswer disk disk store.setting sink sink_after (told_turn tick store.setting reply ∷ []) status
+reply-stops disk lawful store tick reply sink sink_after WriteFault told =
+    inl (record {
+      replies = told;
+      stored = λ _ stands c left. record { kept = stored_setting store.setting; is = stands.each c left; state = refl };
+      stores = stores-nothing disk lawful store.setting [];
+    })
+reply-stops disk lawful store tick reply sink sink_after Memory told =
+    inl (record { replies = told; stored = λ write. cc; stores = stores-nothing disk lawful store.setting [] })
+reply-stops disk lawful store tick reply sink sink_after other told = absurd told
+
+module _ (old new : DiskSeen) (store after : Seen) (tick : ℕ) (reply : Reply) (sink sink_after : SinkSeen) (told : WritesAll sink sink_after (turns_text (told_turn tick store.setting reply ∷ []))) where
+  -- all steps were stored
+  pub steps-end : StoresSteps old new store after (steps_behind tick store.setting) (Ok tt) →
+      AnswersLine old new store after sink sink_after (told_turn tick store.setting reply ∷ [])
+  steps-end went =
       record {
-        moments = λ stood.
-            then_run moment image_since old mid new all
-            (weaken moment image_since old mid (Holds (IsTreeAfter (stored z.state) xs)) all
-            (λ c holds. holds-weaker (IsTreeAfter (stored z.state) xs) (IsTreeAfter (stored z.state) (xs ++ ys)) c (λ s tree. tree-more (stored z.state) s xs ys tree) holds) (before.moments stood))
-            (weaken moment image_since mid new (Holds (IsTreeAfter (stored w.state) ys)) all
-            (λ c holds. holds-weaker (IsTreeAfter (stored w.state) ys) (IsTreeAfter (stored z.state) (xs ++ ys)) c (λ s tree. tree-then (stored z.state) (stored w.state) s xs ys led tree) holds) (after.moments (stands stood)));
-        names = after.names ∙ before.names;
-        reported = told-since failed (faults old) (faults mid) (faults new) before.reported after.reported;
+        replies = told;
+        on = went.ok;
+        stores = stores-same old new store.setting (steps_behind tick store.setting) (all_events (told_turn tick store.setting reply ∷ [])) false (sym (told-events tick store.setting reply)) went.stores;
       }
 
-  -- the same events, in other words
-  stores-same : (old new : D) (setting : Setting) (xs ys : List Event) (failed : Bool) → xs ≡ ys → Stores seen image moment image_since attached faults old new setting xs failed → Stores seen image moment image_since attached faults old new setting ys failed
-  stores-same old new setting xs ys failed same stores = subst (λ (es : List Event). Stores seen image moment image_since attached faults old new setting es failed) same stores
-
-  -- A reply, and the steps behind it.
-
-  -- the reply couldn't be written whole
-  pub reply-stops : ((disk : D) (c : List ℕ) → image_since disk (moment disk) c → image disk c) → (disk : D) (store : Seen) (tick : ℕ) (reply : Reply) (sink sink_after : SinkSeen) (status : Status) →
-      StopsWriting status sink sink_after (turns_text (told_turn tick store.setting reply ∷ [])) →
-      StopsAnswer seen image moment image_since attached faults disk disk store.setting sink sink_after (told_turn tick store.setting reply ∷ []) status
-  reply-stops only_now disk store tick reply sink sink_after WriteFault told =
-      inl (record {
+  -- or some
+  pub steps-stop : IsLawful new → (reason : StoreFault) →
+      StoresSteps old new store after (steps_behind tick store.setting) (Err reason) →
+      StopsAnswer old new store.setting sink sink_after (told_turn tick store.setting reply ∷ []) (store_status reason)
+  steps-stop lawful reason went =
+      inr (record {
+        why = stops reason went.err;
         replies = told;
-        stored = λ _ stands c left. record { kept = stored_setting store.setting; is = stands-each (seen disk) (image disk) store.setting stands c left; state = refl };
-        stores = stores-nothing only_now disk store.setting [];
-      })
-  reply-stops only_now disk store tick reply sink sink_after Memory told =
-      inl (record { replies = told; stored = λ write. cc; stores = stores-nothing only_now disk store.setting [] })
-  reply-stops only_now disk store tick reply sink sink_after other told = absurd told
-
-  module _ (old new : D) (store after : Seen) (tick : ℕ) (reply : Reply) (sink sink_after : SinkSeen) (told : WritesAll sink sink_after (turns_text (told_turn tick store.setting reply ∷ []))) where
-    -- all steps were stored
-    pub steps-end : StoresSteps seen image moment image_since attached faults old new store after (steps_behind tick store.setting) (Ok tt) →
-        AnswersLine seen image moment image_since attached faults old new store after sink sink_after (told_turn tick store.setting reply ∷ [])
-    steps-end went =
-        record {
-          replies = told;
-          on = went.ok;
-          stores = stores-same old new store.setting (steps_behind tick store.setting) (all_events (told_turn tick store.setting reply ∷ [])) false (sym (told-events tick store.setting reply)) went.stores;
-        }
-
-    -- or some
-    pub steps-stop : ((disk : D) (t : ℕ) (c : List ℕ) → t ≤ moment disk → image disk c → image_since disk t c) → (reason : StoreFault) →
-        StoresSteps seen image moment image_since attached faults old new store after (steps_behind tick store.setting) (Err reason) →
-        StopsAnswer seen image moment image_since attached faults old new store.setting sink sink_after (told_turn tick store.setting reply ∷ []) (store_status reason)
-    steps-stop counts_now reason went =
-        inr (record {
-          why = stops reason went.err;
-          replies = told;
-          left = λ stands c left.
-              let run = went.stores.moments stands in
-              holds-weaker (IsTreeAfter (stored store.setting.state) (steps_behind tick store.setting)) (IsTreeOfAnswered (stored store.setting.state) (told_turn tick store.setting reply ∷ []) 1) c (some-steps tick store.setting reply)
-              (run.each c (counts_now new (moment old) c run.later left));
-          stores = stores-same old new store.setting (steps_behind tick store.setting) (all_events (told_turn tick store.setting reply ∷ [])) (is_disk_fault (store_status reason)) (sym (told-events tick store.setting reply)) went.stores;
-        })
-      where
-        stops : (reason : StoreFault) → StopsSteps reason → StopsCommand (store_status reason)
-        stops fault.Disk why = tt
-        stops fault.Memory why = tt
-        stops other why = absurd why
-
-  -- A command, and its reply with the steps behind it.
-
-  -- no reply was told
-  command-stops : (old new : D) (before after : Seen) (tick : ℕ) (turn : Turn) (sink : SinkSeen) (status : Status) → all_events (turn ∷ []) ≡ turn.events → StoresTurn seen image moment image_since attached faults old new before after turn (Err status) →
-      StopsAnswer seen image moment image_since attached faults old new before.setting sink sink (ticked tick turn ∷ []) status
-  command-stops old new before after tick turn sink status bare went =
-      inl (record {
-        replies = nothing status went.err;
-        stored = λ write. absurd (no-write status went.err write);
-        stores = stores-same old new before.setting (all_events (turn ∷ [])) (command_events (ticked tick turn ∷ [])) (is_disk_fault status) own went.stores;
+        left = λ stands c left.
+            let run = went.stores.moments stands in
+            holds-weaker (IsTreeAfter (stored store.setting.state) (steps_behind tick store.setting)) (IsTreeOfAnswered (stored store.setting.state) (told_turn tick store.setting reply ∷ []) 1) c (some-steps tick store.setting reply)
+            (run.each c (lawful.counts_now old.moment c run.later left));
+        stores = stores-same old new store.setting (steps_behind tick store.setting) (all_events (told_turn tick store.setting reply ∷ [])) (is_disk_fault (store_status reason)) (sym (told-events tick store.setting reply)) went.stores;
       })
     where
-      own : all_events (turn ∷ []) ≡ command_events (ticked tick turn ∷ [])
-      own = bare ∙ sym (append-nil turn.events)
+      stops : (reason : StoreFault) → StopsSteps reason → StopsCommand (store_status reason)
+      stops fault.Disk why = tt
+      stops fault.Memory why = tt
+      stops other why = absurd why
 
-      nothing : (status : Status) → StopsCommand status → CutsWriting status sink sink (turns_text (ticked tick turn ∷ []))
-      nothing DiskFault why = refl
-      nothing Memory why = refl
-      nothing other why = absurd why
+-- A command, and its reply with the steps behind it.
 
-      no-write : (status : Status) → StopsCommand status → status ≡ WriteFault → ⊥
-      no-write WriteFault why write = absurd why
-      no-write DiskFault why write = cc
-      no-write Memory why write = cc
-      no-write other why write = absurd why
+-- no reply was told
+command-stops : (old new : DiskSeen) (before after : Seen) (tick : ℕ) (turn : Turn) (sink : SinkSeen) (status : Status) → all_events (turn ∷ []) ≡ turn.events → StoresTurn old new before after turn (Err status) →
+    StopsAnswer old new before.setting sink sink (ticked tick turn ∷ []) status
+command-stops old new before after tick turn sink status bare went =
+    inl (record {
+      replies = nothing status went.err;
+      stored = λ write. absurd (no-write status went.err write);
+      stores = stores-same old new before.setting (all_events (turn ∷ [])) (command_events (ticked tick turn ∷ [])) (is_disk_fault status) own went.stores;
+    })
+  where
+    own : all_events (turn ∷ []) ≡ command_events (ticked tick turn ∷ [])
+    own = bare ∙ sym (append-nil turn.events)
 
-  -- a command was stored, before its reply was told
-  module _ (old mid new : D) (before store after : Seen) (turn : Turn) (reply : Reply) (sink sink_after : SinkSeen) (tick : ℕ) (went : StoresTurn seen image moment image_since attached faults old mid before store turn (Ok reply))
-      (own : all_events (turn ∷ []) ≡ turn.events) (led : stored turn.after.state ≡ apply_all (stored before.setting.state) turn.events) where
-    led-on : stored store.setting.state ≡ apply_all (stored before.setting.state) turn.events
-    led-on = ap (λ (z : Setting). stored z.state) went.ok.on.setting ∙ led
+    nothing : (status : Status) → StopsCommand status → CutsWriting status sink sink (turns_text (ticked tick turn ∷ []))
+    nothing DiskFault why = refl
+    nothing Memory why = refl
+    nothing other why = absurd why
 
-    all-events : turn.events ++ all_events (told_turn tick store.setting reply ∷ []) ≡ all_events (ticked tick turn ∷ [])
-    all-events = ap (λ (es : List Event). turn.events ++ es) (told-events tick store.setting reply ∙ ap (steps_behind tick) went.ok.on.setting) ∙ sym (ticked-events tick turn)
+    no-write : (status : Status) → StopsCommand status → status ≡ WriteFault → ⊥
+    no-write WriteFault why write = absurd why
+    no-write DiskFault why write = cc
+    no-write Memory why write = cc
+    no-write other why write = absurd why
 
-    stores-on : (more : List Event) (failed : Bool) → Stores seen image moment image_since attached faults mid new store.setting more failed → Stores seen image moment image_since attached faults old new before.setting (turn.events ++ more) failed
-    stores-on more failed stores =
-        stores-then old mid new before.setting store.setting turn.events more failed (stores-same old mid before.setting (all_events (turn ∷ [])) turn.events false own went.stores) went.ok.on.stands led-on stores
+-- a command was stored, before its reply was told
+module _ (old mid new : DiskSeen) (before store after : Seen) (turn : Turn) (reply : Reply) (sink sink_after : SinkSeen) (tick : ℕ) (went : StoresTurn old mid before store turn (Ok reply))
+    (own : all_events (turn ∷ []) ≡ turn.events) (led : stored turn.after.state ≡ apply_all (stored before.setting.state) turn.events) where
+  led-on : stored store.setting.state ≡ apply_all (stored before.setting.state) turn.events
+  led-on = ap (λ (z : Setting). stored z.state) went.ok.on.setting ∙ led
 
-    then-told : AnswersLine seen image moment image_since attached faults mid new store after sink sink_after (told_turn tick store.setting reply ∷ []) →
-        AnswersLine seen image moment image_since attached faults old new before after sink sink_after (ticked tick turn ∷ [])
-    then-told answers =
-        record {
-          replies = subst (λ (r : Reply). WritesAll sink sink_after (text (r ∷ []))) went.ok.reply_is answers.replies;
-          on = record {
-            setting = answers.on.setting ∙ ap (λ (z : Setting). after_events z (steps_behind tick z)) went.ok.on.setting;
-            intact = answers.on.intact ∙ went.ok.on.intact;
-            place = answers.on.place;
-            stands = λ stands. answers.on.stands (went.ok.on.stands stands);
-          };
-          stores =
-              stores-same old new before.setting (turn.events ++ all_events (told_turn tick store.setting reply ∷ [])) (all_events (ticked tick turn ∷ [])) false all-events
-              (stores-on (all_events (told_turn tick store.setting reply ∷ [])) false answers.stores);
-        }
+  all-events : turn.events ++ all_events (told_turn tick store.setting reply ∷ []) ≡ all_events (ticked tick turn ∷ [])
+  all-events = ap (λ (es : List Event). turn.events ++ es) (told-events tick store.setting reply ∙ ap (steps_behind tick) went.ok.on.setting) ∙ sym (ticked-events tick turn)
 
-    -- some of the steps behind the reply
-    told-tree : (now : State) → IsTreeOfAnswered (stored store.setting.state) (told_turn tick store.setting reply ∷ []) 1 now → IsTreeOfAnswered (stored before.setting.state) (ticked tick turn ∷ []) 1 now
-    told-tree now tree =
-        let more = all_events (told_turn tick store.setting reply ∷ []) in
-        let behind = tree-then (stored before.setting.state) (stored store.setting.state) now turn.events more led-on (record { count = tree.count; within = tree.within; is = tree.is }) in
-        record {
-          count = length turn.events + tree.count;
-          within = omega (arith, behind.within, ap length all-events);
-          is = behind.is ∙ ap (λ (es : List Event). apply_all (stored before.setting.state) (take (length turn.events + tree.count) es)) all-events;
-          answered = omega arith;
-          no_further = λ more. absurd (omega (arith, more));
-        }
+  stores-on : (more : List Event) (failed : Bool) → Stores mid new store.setting more failed → Stores old new before.setting (turn.events ++ more) failed
+  stores-on more failed stores =
+      stores-then old mid new before.setting store.setting turn.events more failed (stores-same old mid before.setting (all_events (turn ∷ [])) turn.events false own went.stores) went.ok.on.stands led-on stores
 
-    then-stops : (status : Status) → StopsAnswer seen image moment image_since attached faults mid new store.setting sink sink_after (told_turn tick store.setting reply ∷ []) status →
-        StopsAnswer seen image moment image_since attached faults old new before.setting sink sink_after (ticked tick turn ∷ []) status
-    then-stops status (inl stop) =
-        inl (record {
-          replies = subst (λ (r : Reply). CutsWriting status sink sink_after (text (r ∷ []))) went.ok.reply_is stop.replies;
-          stored = λ write stands c left.
-              holds-weaker (λ now. now ≡ stored store.setting.state) (λ now. now ≡ apply_all (stored before.setting.state) (command_events (ticked tick turn ∷ []))) c
-              (λ now is. is ∙ led-on ∙ ap (apply_all (stored before.setting.state)) (sym (append-nil turn.events))) (stop.stored write (went.ok.on.stands stands) c left);
-          stores = stores-on [] (is_disk_fault status) stop.stores;
-        })
-    then-stops status (inr stop) =
-        inr (record {
-          why = stop.why;
-          replies = subst (λ (r : Reply). WritesAll sink sink_after (text (r ∷ []))) went.ok.reply_is stop.replies;
-          left = λ stands c left.
-              holds-weaker (IsTreeOfAnswered (stored store.setting.state) (told_turn tick store.setting reply ∷ []) 1) (IsTreeOfAnswered (stored before.setting.state) (ticked tick turn ∷ []) 1) c told-tree
-              (stop.left (went.ok.on.stands stands) c left);
-          stores =
-              stores-same old new before.setting (turn.events ++ all_events (told_turn tick store.setting reply ∷ [])) (all_events (ticked tick turn ∷ [])) (is_disk_fault status) all-events
-              (stores-on (all_events (told_turn tick store.setting reply ∷ [])) (is_disk_fault status) stop.stores);
-        })
+  then-told : AnswersLine mid new store after sink sink_after (told_turn tick store.setting reply ∷ []) →
+      AnswersLine old new before after sink sink_after (ticked tick turn ∷ [])
+  then-told answers =
+      record {
+        replies = subst (λ (r : Reply). WritesAll sink sink_after (text (r ∷ []))) went.ok.reply_is answers.replies;
+        on = record {
+          setting = answers.on.setting ∙ ap (λ (z : Setting). after_events z (steps_behind tick z)) went.ok.on.setting;
+          intact = answers.on.intact ∙ went.ok.on.intact;
+          place = answers.on.place;
+          stands = λ stands. answers.on.stands (went.ok.on.stands stands);
+        };
+        stores =
+            stores-same old new before.setting (turn.events ++ all_events (told_turn tick store.setting reply ∷ [])) (all_events (ticked tick turn ∷ [])) false all-events
+            (stores-on (all_events (told_turn tick store.setting reply ∷ [])) false answers.stores);
+      }
 
-  -- A line, whose turn is known where the contents of the spaces are told.
+  -- some of the steps behind the reply
+  told-tree : (now : State) → IsTreeOfAnswered (stored store.setting.state) (told_turn tick store.setting reply ∷ []) 1 now → IsTreeOfAnswered (stored before.setting.state) (ticked tick turn ∷ []) 1 now
+  told-tree now tree =
+      let more = all_events (told_turn tick store.setting reply ∷ []) in
+      let behind = tree-then (stored before.setting.state) (stored store.setting.state) now turn.events more led-on (record { count = tree.count; within = tree.within; is = tree.is }) in
+      record {
+        count = length turn.events + tree.count;
+        within = omega (arith, behind.within, ap length all-events);
+        is = behind.is ∙ ap (λ (es : List Event). apply_all (stored before.setting.state) (take (length turn.events + tree.count) es)) all-events;
+        answered = omega arith;
+        no_further = λ more. absurd (omega (arith, more));
+      }
 
-  -- no reply was told
-  pub item-stops : (old new : D) (spaces left : SpacesSeen) (before after : Seen) (tick : ℕ) (item : Item) (sink : SinkSeen) (was now : Bool) (probes probes_now : ℕ) (status : Status) →
-      StoresItem seen image moment image_since attached faults old new spaces left before after item probes probes_now (Err status) →
-      AnswersItems seen image moment image_since attached faults old new spaces left tick before after sink sink (item ∷ []) was now probes probes_now (Err status)
-  item-stops old new spaces left before after tick item sink was now probes probes_now status went =
+  then-stops : (status : Status) → StopsAnswer mid new store.setting sink sink_after (told_turn tick store.setting reply ∷ []) status →
+      StopsAnswer old new before.setting sink sink_after (ticked tick turn ∷ []) status
+  then-stops status (inl stop) =
+      inl (record {
+        replies = subst (λ (r : Reply). CutsWriting status sink sink_after (text (r ∷ []))) went.ok.reply_is stop.replies;
+        stored = λ write stands c left.
+            holds-weaker (λ now. now ≡ stored store.setting.state) (λ now. now ≡ apply_all (stored before.setting.state) (command_events (ticked tick turn ∷ []))) c
+            (λ now is. is ∙ led-on ∙ ap (apply_all (stored before.setting.state)) (sym (append-nil turn.events))) (stop.stored write (went.ok.on.stands stands) c left);
+        stores = stores-on [] (is_disk_fault status) stop.stores;
+      })
+  then-stops status (inr stop) =
+      inr (record {
+        why = stop.why;
+        replies = subst (λ (r : Reply). WritesAll sink sink_after (text (r ∷ []))) went.ok.reply_is stop.replies;
+        left = λ stands c left.
+            holds-weaker (IsTreeOfAnswered (stored store.setting.state) (told_turn tick store.setting reply ∷ []) 1) (IsTreeOfAnswered (stored before.setting.state) (ticked tick turn ∷ []) 1) c told-tree
+            (stop.left (went.ok.on.stands stands) c left);
+        stores =
+            stores-same old new before.setting (turn.events ++ all_events (told_turn tick store.setting reply ∷ [])) (all_events (ticked tick turn ∷ [])) (is_disk_fault status) all-events
+            (stores-on (all_events (told_turn tick store.setting reply ∷ [])) (is_disk_fault status) stop.stores);
+      })
+
+-- A line, whose turn is known where the contents of the spaces are told.
+
+-- no reply was told
+pub item-stops : (old new : DiskSeen) (spaces left : SpacesSeen) (before after : Seen) (tick : ℕ) (item : Item) (sink : SinkSeen) (was now : Bool) (probes probes_now : ℕ) (status : Status) →
+    StoresItem old new spaces left before after item probes probes_now (Err status) →
+    AnswersItems old new spaces left tick before after sink sink (item ∷ []) was now probes probes_now (Err status)
+item-stops old new spaces left before after tick item sink was now probes probes_now status went =
+    record {
+      met = went.fault ∷ [];
+      asked = went.asked;
+      answered = ticked tick went.turn ∷ [];
+      few = omega arith;
+      leads = ticked-leads tick before.setting went.turn went.bare.leads;
+      told =
+          told-alike (λ contents. IsTurnOf contents went.fault before.setting item went.turn) (λ contents. AreTurns contents (went.fault ∷ []) tick before.setting (item ∷ []) (ticked tick went.turn ∷ []) probes probes_now) spaces.contents
+          (λ contents of. line-turns contents went.fault tick before.setting item went.turn probes probes_now of went.bare (omega (arith, went.asks))) went.told;
+      refused = tt;
+      ok = tt;
+      err = command-stops old new before after tick went.turn sink status went.bare.own went.stores;
+    }
+
+module _ (old mid new : DiskSeen) (spaces left : SpacesSeen) (before store after : Seen) (reply : Reply) (sink sink_after : SinkSeen) (tick : ℕ) (item : Item) (probes probes_told probes_now : ℕ)
+    (went : StoresItem old mid spaces left before store item probes probes_told (Ok reply)) where
+  line-told : (result : Result (Unit {0}) Status) → OnOk result (AnswersLine mid new store after sink sink_after (told_turn tick store.setting reply ∷ [])) →
+      OnOk result (AnswersLine old new before after sink sink_after (ticked tick went.turn ∷ []))
+  line-told (Err status) answers = tt
+  line-told (Ok done) answers = then-told old mid new before store after went.turn reply sink sink_after tick went.stores went.bare.own went.bare.leads answers
+
+  line-stops-behind : (result : Result (Unit {0}) Status) → IfErr result (StopsAnswer mid new store.setting sink sink_after (told_turn tick store.setting reply ∷ [])) →
+      IfErr result (StopsAnswer old new before.setting sink sink_after (ticked tick went.turn ∷ []))
+  line-stops-behind (Ok done) stop = tt
+  line-stops-behind (Err status) stop = then-stops old mid new before store after went.turn reply sink sink_after tick went.stores went.bare.own went.bare.leads status stop
+
+  -- its reply was told, or stopped
+  pub item-told : (was now : Bool) (result : Result (Unit {0}) Status) → OnOk result (now ≡ (was || is_refused reply)) →
+      OnOk result (AnswersLine mid new store after sink sink_after (told_turn tick store.setting reply ∷ [])) →
+      IfErr result (StopsAnswer mid new store.setting sink sink_after (told_turn tick store.setting reply ∷ [])) →
+      probes_now ≤ probes_told + costs store.setting.state (steps_behind tick store.setting) →
+      AnswersItems old new spaces left tick before after sink sink_after (item ∷ []) was now probes probes_now result
+  item-told was now result told_refused answers stops asks =
       record {
         met = went.fault ∷ [];
         asked = went.asked;
@@ -281,98 +313,65 @@ module _ {D : Type 0} {seen : D → Option (List ℕ)} {image : D → List ℕ �
         leads = ticked-leads tick before.setting went.turn went.bare.leads;
         told =
             told-alike (λ contents. IsTurnOf contents went.fault before.setting item went.turn) (λ contents. AreTurns contents (went.fault ∷ []) tick before.setting (item ∷ []) (ticked tick went.turn ∷ []) probes probes_now) spaces.contents
-            (λ contents of. line-turns contents went.fault tick before.setting item went.turn probes probes_now of went.bare (omega (arith, went.asks))) went.told;
-        refused = tt;
-        ok = tt;
-        err = command-stops old new before after tick went.turn sink status went.bare.own went.stores;
-      }
-
-  module _ (old mid new : D) (spaces left : SpacesSeen) (before store after : Seen) (reply : Reply) (sink sink_after : SinkSeen) (tick : ℕ) (item : Item) (probes probes_told probes_now : ℕ)
-      (went : StoresItem seen image moment image_since attached faults old mid spaces left before store item probes probes_told (Ok reply)) where
-    line-told : (result : Result (Unit {0}) Status) → OnOk result (AnswersLine seen image moment image_since attached faults mid new store after sink sink_after (told_turn tick store.setting reply ∷ [])) →
-        OnOk result (AnswersLine seen image moment image_since attached faults old new before after sink sink_after (ticked tick went.turn ∷ []))
-    line-told (Err status) answers = tt
-    line-told (Ok done) answers = then-told old mid new before store after went.turn reply sink sink_after tick went.stores went.bare.own went.bare.leads answers
-
-    line-stops-behind : (result : Result (Unit {0}) Status) → IfErr result (StopsAnswer seen image moment image_since attached faults mid new store.setting sink sink_after (told_turn tick store.setting reply ∷ [])) →
-        IfErr result (StopsAnswer seen image moment image_since attached faults old new before.setting sink sink_after (ticked tick went.turn ∷ []))
-    line-stops-behind (Ok done) stop = tt
-    line-stops-behind (Err status) stop = then-stops old mid new before store after went.turn reply sink sink_after tick went.stores went.bare.own went.bare.leads status stop
-
-    -- its reply was told, or stopped
-    pub item-told : (was now : Bool) (result : Result (Unit {0}) Status) → OnOk result (now ≡ (was || is_refused reply)) →
-        OnOk result (AnswersLine seen image moment image_since attached faults mid new store after sink sink_after (told_turn tick store.setting reply ∷ [])) →
-        IfErr result (StopsAnswer seen image moment image_since attached faults mid new store.setting sink sink_after (told_turn tick store.setting reply ∷ [])) →
-        probes_now ≤ probes_told + costs store.setting.state (steps_behind tick store.setting) →
-        AnswersItems seen image moment image_since attached faults old new spaces left tick before after sink sink_after (item ∷ []) was now probes probes_now result
-    item-told was now result told_refused answers stops asks =
-        record {
-          met = went.fault ∷ [];
-          asked = went.asked;
-          answered = ticked tick went.turn ∷ [];
-          few = omega arith;
-          leads = ticked-leads tick before.setting went.turn went.bare.leads;
-          told =
-              told-alike (λ contents. IsTurnOf contents went.fault before.setting item went.turn) (λ contents. AreTurns contents (went.fault ∷ []) tick before.setting (item ∷ []) (ticked tick went.turn ∷ []) probes probes_now) spaces.contents
-              (λ contents of. line-turns contents went.fault tick before.setting item went.turn probes probes_now of went.bare all-asks) went.told;
-          refused = line-refused tick went.turn reply was now result went.stores.ok.reply_is told_refused;
-          ok = line-told result answers;
-          err = line-stops-behind result stops;
-        }
-      where
-        all-asks : probes_now ≤ probes + (answering_line before.setting.state item + costs before.setting.state went.turn.events + costs went.turn.after.state (steps_behind tick went.turn.after))
-        all-asks =
-            let behind = subst (λ (z : Setting). probes_now ≤ probes_told + costs z.state (steps_behind tick z)) went.stores.ok.on.setting asks in
-            omega (arith, went.asks, behind)
-
-  -- A line that is refused by its form asks nothing.
-  pub form-told : (old new : D) (spaces : SpacesSeen) (before after : Seen) (sink sink_after : SinkSeen) (tick : ℕ) (refusal : Refusal) (was now : Bool) (probes probes_now : ℕ) (result : Result (Unit {0}) Status) →
-      OnOk result (now ≡ (was || is_refused (Refused refusal))) →
-      OnOk result (AnswersLine seen image moment image_since attached faults old new before after sink sink_after (told_turn tick before.setting (Refused refusal) ∷ [])) →
-      IfErr result (StopsAnswer seen image moment image_since attached faults old new before.setting sink sink_after (told_turn tick before.setting (Refused refusal) ∷ [])) →
-      probes_now ≤ probes + costs before.setting.state (steps_behind tick before.setting) →
-      AnswersItems seen image moment image_since attached faults old new spaces spaces tick before after sink sink_after (Err refusal ∷ []) was now probes probes_now result
-  form-told old new spaces before after sink sink_after tick refusal was now probes probes_now result told_refused answers stops asks =
-      record {
-        met = None ∷ [];
-        asked = record { stay = record { attached = refl; contents = refl; later = omega arith }; count = refl };
-        answered = told_turn tick before.setting (Refused refusal) ∷ [];
-        few = omega arith;
-        leads = ticked-leads tick before.setting (refused_turn nothing_given before.setting refusal) refl;
-        told = told spaces.contents;
-        refused = told_refused_on result told_refused;
-        ok = answers;
-        err = stops;
+            (λ contents of. line-turns contents went.fault tick before.setting item went.turn probes probes_now of went.bare all-asks) went.told;
+        refused = line-refused tick went.turn reply was now result went.stores.ok.reply_is told_refused;
+        ok = line-told result answers;
+        err = line-stops-behind result stops;
       }
     where
-      told : (o : Option Contents) → IfSome o (λ contents. AreTurns contents (None ∷ []) tick before.setting (Err refusal ∷ []) (told_turn tick before.setting (Refused refusal) ∷ []) probes probes_now)
-      told None = search rules
-      told (Some contents) = record { are = refl; count = refl; askable = (tt, refl); asks = omega (arith, asks) }
+      all-asks : probes_now ≤ probes + (answering_line before.setting.state item + costs before.setting.state went.turn.events + costs went.turn.after.state (steps_behind tick went.turn.after))
+      all-asks =
+          let behind = subst (λ (z : Setting). probes_now ≤ probes_told + costs z.state (steps_behind tick z)) went.stores.ok.on.setting asks in
+          omega (arith, went.asks, behind)
 
-      told_refused_on : (result : Result (Unit {0}) Status) → OnOk result (now ≡ (was || is_refused (Refused refusal))) → OnOk result (now ≡ (was || has_refusal (told_turn tick before.setting (Refused refusal) ∷ [])))
-      told_refused_on (Ok done) is = is
-      told_refused_on (Err status) is = tt
+-- A line that is refused by its form asks nothing.
+pub form-told : (old new : DiskSeen) (spaces : SpacesSeen) (before after : Seen) (sink sink_after : SinkSeen) (tick : ℕ) (refusal : Refusal) (was now : Bool) (probes probes_now : ℕ) (result : Result (Unit {0}) Status) →
+    OnOk result (now ≡ (was || is_refused (Refused refusal))) →
+    OnOk result (AnswersLine old new before after sink sink_after (told_turn tick before.setting (Refused refusal) ∷ [])) →
+    IfErr result (StopsAnswer old new before.setting sink sink_after (told_turn tick before.setting (Refused refusal) ∷ [])) →
+    probes_now ≤ probes + costs before.setting.state (steps_behind tick before.setting) →
+    AnswersItems old new spaces spaces tick before after sink sink_after (Err refusal ∷ []) was now probes probes_now result
+form-told old new spaces before after sink sink_after tick refusal was now probes probes_now result told_refused answers stops asks =
+    record {
+      met = None ∷ [];
+      asked = record { stay = record { attached = refl; contents = refl; later = omega arith }; count = refl };
+      answered = told_turn tick before.setting (Refused refusal) ∷ [];
+      few = omega arith;
+      leads = ticked-leads tick before.setting (refused_turn nothing_given before.setting refusal) refl;
+      told = told spaces.contents;
+      refused = told_refused_on result told_refused;
+      ok = answers;
+      err = stops;
+    }
+  where
+    told : (o : Option Contents) → IfSome o (λ contents. AreTurns contents (None ∷ []) tick before.setting (Err refusal ∷ []) (told_turn tick before.setting (Refused refusal) ∷ []) probes probes_now)
+    told None = search rules
+    told (Some contents) = record { are = refl; count = refl; askable = (tt, refl); asks = omega (arith, asks) }
 
-  -- nothing is answered
-  pub none-told : ((disk : D) (c : List ℕ) → image_since disk (moment disk) c → image disk c) → (disk : D) (spaces : SpacesSeen) (store : Seen) (sink : SinkSeen) (tick : ℕ) (was : Bool) (probes : ℕ) → Bears (seen disk) store →
-      AnswersItems seen image moment image_since attached faults disk disk spaces spaces tick store store sink sink [] was was probes probes (Ok tt)
-  none-told only_now disk spaces store sink tick was probes place =
-      record {
-        met = [];
-        asked = record { stay = record { attached = refl; contents = refl; later = omega arith }; count = refl };
-        answered = [];
-        few = omega arith;
-        leads = refl;
-        told = told spaces.contents;
-        refused = sym (or-none was);
-        ok = record {
-          replies = record { written = appends-nothing sink.written; passed = λ none. none; faults = refl };
-          on = record { setting = refl; intact = refl; place = place; stands = λ stands. stands };
-          stores = stores-nothing only_now disk store.setting [];
-        };
-        err = tt;
-      }
-    where
-      told : (o : Option Contents) → IfSome o (λ contents. AreTurns contents [] tick store.setting [] [] probes probes)
-      told None = search rules
-      told (Some contents) = record { are = refl; count = refl; askable = refl; asks = omega arith }
+    told_refused_on : (result : Result (Unit {0}) Status) → OnOk result (now ≡ (was || is_refused (Refused refusal))) → OnOk result (now ≡ (was || has_refusal (told_turn tick before.setting (Refused refusal) ∷ [])))
+    told_refused_on (Ok done) is = is
+    told_refused_on (Err status) is = tt
+
+-- nothing is answered
+pub none-told : (disk : DiskSeen) → IsLawful disk → (spaces : SpacesSeen) (store : Seen) (sink : SinkSeen) (tick : ℕ) (was : Bool) (probes : ℕ) → Bears disk store →
+    AnswersItems disk disk spaces spaces tick store store sink sink [] was was probes probes (Ok tt)
+none-told disk lawful spaces store sink tick was probes place =
+    record {
+      met = [];
+      asked = record { stay = record { attached = refl; contents = refl; later = omega arith }; count = refl };
+      answered = [];
+      few = omega arith;
+      leads = refl;
+      told = told spaces.contents;
+      refused = sym (or-none was);
+      ok = record {
+        replies = record { written = appends-nothing sink.written; passed = λ none. none; faults = refl };
+        on = record { setting = refl; intact = refl; place = place; stands = λ stands. stands };
+        stores = stores-nothing disk lawful store.setting [];
+      };
+      err = tt;
+    }
+  where
+    told : (o : Option Contents) → IfSome o (λ contents. AreTurns contents [] tick store.setting [] [] probes probes)
+    told None = search rules
+    told (Some contents) = record { are = refl; count = refl; askable = refl; asks = omega arith }

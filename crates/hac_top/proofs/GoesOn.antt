@@ -3,6 +3,7 @@ use Rattle.std.proofs.Common.{◌≡◌, ℕ, ◌+◌, ◌≤◌, false, Bool, L
 use Rattle.std.specs.Option.{IfSome}
 use Rattle.std.specs.Io.KnownBytes.{Appends}
 use Rattle.hac_disk.specs.Images.{LeavesOnly}
+use Rattle.hac_disk.specs.Seen.{DiskSeen}
 use Rattle.hac_outside.specs.Known.{Known}
 use Rattle.hac_outside.specs.Seen.{SinkSeen}
 use Rattle.hac_model.specs.Run.Costs.{lines_cost}
@@ -52,8 +53,7 @@ pub record IsPlayed (contents : Contents) (met : List (Option (List ℕ))) (tick
 
 -- Between two lines no call of the source, the sink or the disk has failed, and all was passed on. The disk stands for
 -- what the lines so far left, and a crash since the run began leaves the tree after some of the events of their turns.
-pub record RunsOn {D : Type 0} (seen : D → Option (List ℕ)) (image : D → List ℕ → Type 0) (moment : D → ℕ) (image_since : D → ℕ → List ℕ → Type 0) (attached : D → Option (List (List ℕ × Bool))) (faults : D → ℕ)
-    (old disk : D) (tick : ℕ) (first : Setting) (before now : Outside) (spaces spaces_now : SpacesSeen) (reader : Reading) (store : Seen) (refused : Bool) : Type 0 where
+pub record RunsOn (old disk : DiskSeen) (tick : ℕ) (first : Setting) (before now : Outside) (spaces spaces_now : SpacesSeen) (reader : Reading) (store : Seen) (refused : Bool) : Type 0 where
   pub met : List (Option (List ℕ))
   pub asked : HaveAsked spaces spaces_now met
   pub answered : List Turn
@@ -64,8 +64,8 @@ pub record RunsOn {D : Type 0} (seen : D → Option (List ℕ)) (image : D → L
   pub source : LeavesSource false fresh_reader reader before.source now.source
   pub passed : before.sink.held_back ≡ 0 → now.sink.held_back ≡ 0
   pub wrote : now.sink.faults ≡ before.sink.faults
-  pub usable : IsUsable (seen disk) store
-  pub stands : Stands (seen old) (image old) first → Stands (seen disk) (image disk) store.setting
-  pub moments : Stands (seen old) (image old) first → LeavesOnly moment image_since old disk (Holds (IsTreeAfter (stored first.state) (all_events answered)))
-  pub names : attached disk ≡ attached old
-  pub quiet : faults disk ≡ faults old
+  pub usable : IsUsable disk store
+  pub stands : Stands old first → Stands disk store.setting
+  pub moments : Stands old first → LeavesOnly old disk (Holds (IsTreeAfter (stored first.state) (all_events answered)))
+  pub names : disk.attached ≡ old.attached
+  pub quiet : disk.faults ≡ old.faults

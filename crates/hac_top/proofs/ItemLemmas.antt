@@ -2,6 +2,7 @@
 use Rattle.std.proofs.Common.{◌≡◌, ℕ, ◌+◌, ◌≤◌, arith, Bool, true, false, List, [], ◌∷◌, ◌++◌, refl, ap, subst, sym, ◌∙◌, append-nil, rules}
 use Rattle.std.specs.Prelude.{if◌then◌else◌, filter, replicate, IfOk, Option, None, Some, Result, Ok, Err}
 use Rattle.std.specs.Option.{IfSome, option_map_or}
+use Rattle.hac_disk.specs.Seen.{DiskSeen, IsLawful}
 use Rattle.hac_core.specs.declared.drafts.Settled.{Settled}
 use Rattle.hac_core.specs.declared.drafts.Settled.TheVariants as settled
 use Rattle.hac_model.specs.Run.Costs.{answering_line}
@@ -63,49 +64,48 @@ item-bare contents met setting item =
     let own : all_events (turn ∷ []) ≡ turn.events = append-nil (turn.events ++ turn.steps) ∙ ap (λ (more : List Event). turn.events ++ more) steps ∙ append-nil turn.events in
     record { own = own; leads = events-lead (given_by contents met 0) setting (item ∷ []) ∙ ap (apply_all (stored setting.state)) own }
 
-module _ {D : Type 0} {seen : D → Option (List ℕ)} {image : D → List ℕ → Type 0} {moment : D → ℕ} {image_since : D → ℕ → List ℕ → Type 0} {attached : D → Option (List (List ℕ × Bool))} {faults : D → ℕ} where
-  -- what was decided was stored
-  pub item-stored : (old new : D) (spaces left : SpacesSeen) (before after : Seen) (s : State) (item : Item) (decision : Decision) {result : Result Reply Status} {probes mid now : ℕ} → s ≡ before.setting.state → DecidesItem spaces left s item (Ok decision) →
-      mid ≤ probes + answering_line s item → now ≤ mid + costs before.setting.state (decided_turn before.setting decision).events →
-      StoresTurn seen image moment image_since attached faults old new before after (decided_turn before.setting decision) result → StoresItem seen image moment image_since attached faults old new spaces left before after item probes now result
-  item-stored old new spaces left before after s item decision {result} {probes} {mid} {now} same decides asked asks stores =
-      record {
-        fault = decides.fault;
-        asked = decides.asked;
-        turn = decided_turn before.setting decision;
-        bare = decided-bare before.setting decision (subst (λ (t : State). CanHappen t decision) same decides.happen);
-        told = by spaces.contents (subst (λ (t : State). IfSome spaces.contents (λ c. Says t c)) same decides.told);
-        stores = stores;
-        asks =
-            let answering : mid ≤ probes + answering_line before.setting.state item = subst (λ (t : State). mid ≤ probes + answering_line t item) same asked in
-            omega (arith, answering, asks);
-      }
-    where
-      Says : State → Contents → Type 0
-      Says t c = MayFail (given_by c (decides.fault ∷ []) 0) t item decides.fault × Decides t (λ setting. item_turn (given_by c (decides.fault ∷ []) 0) setting item) decision
+-- what was decided was stored
+pub item-stored : (old new : DiskSeen) (spaces left : SpacesSeen) (before after : Seen) (s : State) (item : Item) (decision : Decision) {result : Result Reply Status} {probes mid now : ℕ} → s ≡ before.setting.state → DecidesItem spaces left s item (Ok decision) →
+    mid ≤ probes + answering_line s item → now ≤ mid + costs before.setting.state (decided_turn before.setting decision).events →
+    StoresTurn old new before after (decided_turn before.setting decision) result → StoresItem old new spaces left before after item probes now result
+item-stored old new spaces left before after s item decision {result} {probes} {mid} {now} same decides asked asks stores =
+    record {
+      fault = decides.fault;
+      asked = decides.asked;
+      turn = decided_turn before.setting decision;
+      bare = decided-bare before.setting decision (subst (λ (t : State). CanHappen t decision) same decides.happen);
+      told = by spaces.contents (subst (λ (t : State). IfSome spaces.contents (λ c. Says t c)) same decides.told);
+      stores = stores;
+      asks =
+          let answering : mid ≤ probes + answering_line before.setting.state item = subst (λ (t : State). mid ≤ probes + answering_line t item) same asked in
+          omega (arith, answering, asks);
+    }
+  where
+    Says : State → Contents → Type 0
+    Says t c = MayFail (given_by c (decides.fault ∷ []) 0) t item decides.fault × Decides t (λ setting. item_turn (given_by c (decides.fault ∷ []) 0) setting item) decision
 
-      by : (o : Option Contents) → IfSome o (λ c. Says before.setting.state c) → IfSome o (λ c. IsTurnOf c decides.fault before.setting item (decided_turn before.setting decision))
-      by None told = search rules
-      by (Some c) told = record { is = sym (told.1.leads before.setting refl); may = told.0 }
+    by : (o : Option Contents) → IfSome o (λ c. Says before.setting.state c) → IfSome o (λ c. IsTurnOf c decides.fault before.setting item (decided_turn before.setting decision))
+    by None told = search rules
+    by (Some c) told = record { is = sym (told.1.leads before.setting refl); may = told.0 }
 
-  -- memory ran out before
-  pub item-first : ((disk : D) (c : List ℕ) → image_since disk (moment disk) c → image disk c) → (disk : D) (spaces left : SpacesSeen) (store : Seen) (s : State) (item : Item) (result : Result Decision Memory) {probes now : ℕ} → s ≡ store.setting.state → DecidesItem spaces left s item result →
-      now ≤ probes + answering_line s item → StoresItem seen image moment image_since attached faults disk disk spaces left store store item probes now (Err status.Memory)
-  item-first only_now disk spaces left store s item result {probes} {now} same decides asked = by spaces.contents refl
-    where
-      answering : now ≤ probes + answering_line store.setting.state item
-      answering = subst (λ (t : State). now ≤ probes + answering_line t item) same asked
+-- memory ran out before
+pub item-first : (disk : DiskSeen) → IsLawful disk → (spaces left : SpacesSeen) (store : Seen) (s : State) (item : Item) (result : Result Decision Memory) {probes now : ℕ} → s ≡ store.setting.state → DecidesItem spaces left s item result →
+    now ≤ probes + answering_line s item → StoresItem disk disk spaces left store store item probes now (Err status.Memory)
+item-first disk lawful spaces left store s item result {probes} {now} same decides asked = by spaces.contents refl
+  where
+    answering : now ≤ probes + answering_line store.setting.state item
+    answering = subst (λ (t : State). now ≤ probes + answering_line t item) same asked
 
-      of : (turn : Turn) → IsBare store.setting turn → IfSome spaces.contents (λ c. IsTurnOf c decides.fault store.setting item turn) → StoresItem seen image moment image_since attached faults disk disk spaces left store store item probes now (Err status.Memory)
-      of turn bare told = record { fault = decides.fault; asked = decides.asked; turn = turn; bare = bare; told = told; stores = stops-first only_now disk store turn; asks = omega (arith, answering) }
+    of : (turn : Turn) → IsBare store.setting turn → IfSome spaces.contents (λ c. IsTurnOf c decides.fault store.setting item turn) → StoresItem disk disk spaces left store store item probes now (Err status.Memory)
+    of turn bare told = record { fault = decides.fault; asked = decides.asked; turn = turn; bare = bare; told = told; stores = stops-first disk lawful store turn; asks = omega (arith, answering) }
 
-      first : {P Q : Type 0} → P × Q → P
-      first both = both.0
+    first : {P Q : Type 0} → P × Q → P
+    first both = both.0
 
-      by : (o : Option Contents) → spaces.contents ≡ o → StoresItem seen image moment image_since attached faults disk disk spaces left store store item probes now (Err status.Memory)
-      by None is = of (turn_with store.setting (Lines []) []) (record { own = refl; leads = refl }) (subst (λ (o : Option Contents). IfSome o (λ c. IsTurnOf c decides.fault store.setting item (turn_with store.setting (Lines []) []))) (sym is) (search rules))
-      by (Some c) is =
-          let turn = item_turn (given_by c (decides.fault ∷ []) 0) store.setting item in
-          of turn (item-bare c (decides.fault ∷ []) store.setting item)
-          (subst (λ (o : Option Contents). IfSome o (λ c. IsTurnOf c decides.fault store.setting item turn)) (sym is)
-          (record { is = refl; may = subst (λ (t : State). MayFail (given_by c (decides.fault ∷ []) 0) t item decides.fault) same (first (subst (λ (o : Option Contents). IfSome o (λ c. MayFail (given_by c (decides.fault ∷ []) 0) s item decides.fault × IfOk result (Decides s (λ setting. item_turn (given_by c (decides.fault ∷ []) 0) setting item)))) is decides.told)) }))
+    by : (o : Option Contents) → spaces.contents ≡ o → StoresItem disk disk spaces left store store item probes now (Err status.Memory)
+    by None is = of (turn_with store.setting (Lines []) []) (record { own = refl; leads = refl }) (subst (λ (o : Option Contents). IfSome o (λ c. IsTurnOf c decides.fault store.setting item (turn_with store.setting (Lines []) []))) (sym is) (search rules))
+    by (Some c) is =
+        let turn = item_turn (given_by c (decides.fault ∷ []) 0) store.setting item in
+        of turn (item-bare c (decides.fault ∷ []) store.setting item)
+        (subst (λ (o : Option Contents). IfSome o (λ c. IsTurnOf c decides.fault store.setting item turn)) (sym is)
+        (record { is = refl; may = subst (λ (t : State). MayFail (given_by c (decides.fault ∷ []) 0) t item decides.fault) same (first (subst (λ (o : Option Contents). IfSome o (λ c. MayFail (given_by c (decides.fault ∷ []) 0) s item decides.fault × IfOk result (Decides s (λ setting. item_turn (given_by c (decides.fault ∷ []) 0) setting item)))) is decides.told)) }))

@@ -21,7 +21,7 @@ use Rattle.hac_top.specs.Run.{Ends, Outside, PlaysOn, outside}
 use Rattle.hac_top.specs.Storing.{IsUsable}
 use Rattle.hac_top.specs.declared.status.Status.{Status}
 use Rattle.hac_top.specs.declared.status.Status.TheVariants.{Done, SomeRefused, WriteFault, Memory}
-use Rattle.hac_disk.specs.Contents.{IsSettled}
+use Rattle.hac_disk.specs.Seen.{DiskSeen, IsLawful}
 use Rattle.hac_store.specs.Stores.{Seen, Stands}
 use Rattle.hac_top.proofs.GoesOn.{fresh_reader}
 use Rattle.hac_top.proofs.LineLemmas.{on-stop, runs-begin, stops-unread}
@@ -141,72 +141,71 @@ ends-of (Err stop) told s before after opened unread unwritten left =
 
 -- ---- what is said of a run
 
-module _ {D : Type 0} {seen : D → Option (List ℕ)} {image : D → List ℕ → Type 0} {moment : D → ℕ} {image_since : D → ℕ → List ℕ → Type 0} {attached : D → Option (List (List ℕ × Bool))} {faults : D → ℕ} where
-  -- a script was played by devices of its own
-  pub made-by : {old new : D} {tick : ℕ} {setting : Setting} {number : ℕ} {spaces left : SpacesSeen} {probes probes_now : ℕ} {result : Result Bool Status} {kept : Setting} (first last : ScriptLeft) → first.left ≡ generated number →
-      PlaysOn seen image moment image_since attached faults old new tick setting (outside (seen_of_script first) seen_of_nothing probes) (outside (seen_of_script last) seen_of_nothing probes_now) spaces left result kept →
-      PlaysMade seen image moment image_since attached faults old new tick setting number spaces left probes probes_now result kept
-  made-by {old} {new} {tick} {setting} {number} {spaces} {left} {probes} {probes_now} {result} {kept} first last is on = record {
-    own = record {
-      before = outside (seen_of_script first) seen_of_nothing probes;
-      after = outside (seen_of_script last) seen_of_nothing probes_now;
-      script_is = ap (λ (bytes : List ℕ). Some bytes) is;
-      reads = refl;
-      writes = refl;
-      begins = refl;
-      asks = omega arith;
-    };
-    unread = no-fault (is_read_fault (end_status result)) 0 0 on.plays.ends.reads refl never-rose;
-    unwritten = no-fault (is_write_fault (end_status result)) 0 0 on.plays.ends.writes refl never-rose;
-    on = on;
-  }
+-- a script was played by devices of its own
+pub made-by : {old new : DiskSeen} {tick : ℕ} {setting : Setting} {number : ℕ} {spaces left : SpacesSeen} {probes probes_now : ℕ} {result : Result Bool Status} {kept : Setting} (first last : ScriptLeft) → first.left ≡ generated number →
+    PlaysOn old new tick setting (outside (seen_of_script first) seen_of_nothing probes) (outside (seen_of_script last) seen_of_nothing probes_now) spaces left result kept →
+    PlaysMade old new tick setting number spaces left probes probes_now result kept
+made-by {old} {new} {tick} {setting} {number} {spaces} {left} {probes} {probes_now} {result} {kept} first last is on = record {
+  own = record {
+    before = outside (seen_of_script first) seen_of_nothing probes;
+    after = outside (seen_of_script last) seen_of_nothing probes_now;
+    script_is = ap (λ (bytes : List ℕ). Some bytes) is;
+    reads = refl;
+    writes = refl;
+    begins = refl;
+    asks = omega arith;
+  };
+  unread = no-fault (is_read_fault (end_status result)) 0 0 on.plays.ends.reads refl never-rose;
+  unwritten = no-fault (is_write_fault (end_status result)) 0 0 on.plays.ends.writes refl never-rose;
+  on = on;
+}
 
-  -- there was no memory for the script
-  pub made-none : ((disk : D) (c : List ℕ) → image_since disk (moment disk) c → image disk c) → (disk : D) (tick number probes : ℕ) (spaces : SpacesSeen) (store : Seen) (refused : Bool) → refused ≡ false → IsUsable (seen disk) store →
-      PlaysMade seen image moment image_since attached faults disk disk tick store.setting number spaces spaces probes probes (Err Memory) store.setting
-  made-none only_now disk tick number probes spaces store refused begun usable =
-      let first : ScriptLeft = record { left = generated number; ended = false } in
-      made-by first first refl
-      (on-stop (runs-begin only_now disk tick (own_outside number probes) spaces fresh_reader store refused refl refl begun usable) (stops-unread (seen_of_script first)))
+-- there was no memory for the script
+pub made-none : (disk : DiskSeen) → IsLawful disk → (tick number probes : ℕ) (spaces : SpacesSeen) (store : Seen) (refused : Bool) → refused ≡ false → IsUsable disk store →
+    PlaysMade disk disk tick store.setting number spaces spaces probes probes (Err Memory) store.setting
+made-none disk lawful tick number probes spaces store refused begun usable =
+    let first : ScriptLeft = record { left = generated number; ended = false } in
+    made-by first first refl
+    (on-stop (runs-begin disk lawful tick (own_outside number probes) spaces fresh_reader store refused refl refl begun usable) (stops-unread (seen_of_script first)))
 
-  -- and then what it left was told
-  pub makes-store : {old new : D} {tick : ℕ} {setting : Setting} {number : ℕ} {spaces left : SpacesSeen} {probes mid now : ℕ} {played : Result Bool Status} (told : Result Bool Status) {kept : Setting} {before after : SinkSeen} →
-      PlaysMade seen image moment image_since attached faults old new tick setting number spaces left probes mid played kept → TellsLeft played told kept.state before after → now ≤ mid →
-      MakesStore seen image moment image_since attached faults old new tick setting number before after spaces left probes now (end_status told)
-  makes-store {old} {new} {tick} {setting} {number} {spaces} {left} {probes} {mid} {now} {played} told {kept} {before} {after} made tells few =
-      record {
-        played = end_status played;
-        own = record {
-          before = made.own.before;
-          after = made.own.after;
-          script_is = made.own.script_is;
-          reads = made.own.reads;
-          writes = made.own.writes;
-          begins = made.own.begins;
-          asks = omega (arith, few, made.own.asks);
-        };
-        plays = made.on.plays;
-        tells = of spaces.contents made.own.before.source.left made.own.script_is played made.on.leaves made.on.stops tells;
-        opened = ends.opened;
-        reported = subst (λ (b : Bool). ReportsFault b (faults old) (faults new)) (sym ends.disk) made.on.plays.reported;
-        unread = ends.unread;
-        wrote = ends.wrote;
-        passed = ends.passed;
-      }
-    where
-      ends : EndsTelling (end_status played) (end_status told) before after
-      ends = ends-of played told kept.state before after made.on.plays.opened made.unread made.unwritten tells
+-- and then what it left was told
+pub makes-store : {old new : DiskSeen} {tick : ℕ} {setting : Setting} {number : ℕ} {spaces left : SpacesSeen} {probes mid now : ℕ} {played : Result Bool Status} (told : Result Bool Status) {kept : Setting} {before after : SinkSeen} →
+    PlaysMade old new tick setting number spaces left probes mid played kept → TellsLeft played told kept.state before after → now ≤ mid →
+    MakesStore old new tick setting number before after spaces left probes now (end_status told)
+makes-store {old} {new} {tick} {setting} {number} {spaces} {left} {probes} {mid} {now} {played} told {kept} {before} {after} made tells few =
+    record {
+      played = end_status played;
+      own = record {
+        before = made.own.before;
+        after = made.own.after;
+        script_is = made.own.script_is;
+        reads = made.own.reads;
+        writes = made.own.writes;
+        begins = made.own.begins;
+        asks = omega (arith, few, made.own.asks);
+      };
+      plays = made.on.plays;
+      tells = of spaces.contents made.own.before.source.left made.own.script_is played made.on.leaves made.on.stops tells;
+      opened = ends.opened;
+      reported = subst (λ (b : Bool). ReportsFault b old.faults new.faults) (sym ends.disk) made.on.plays.reported;
+      unread = ends.unread;
+      wrote = ends.wrote;
+      passed = ends.passed;
+    }
+  where
+    ends : EndsTelling (end_status played) (end_status told) before after
+    ends = ends-of played told kept.state before after made.on.plays.opened made.unread made.unwritten tells
 
-      of : (o : Option Contents) (script : Option (List ℕ)) → script ≡ Some (generated number) → (played : Result Bool Status) →
-          OnOk played (IfSome o (λ c. IfSome script (λ bytes. kept ≡ left_by setting (play (given_by c made.on.plays.met tick) setting bytes)))) → IfErr played (λ stop. IsFinished stop → ⊥) → TellsLeft played told kept.state before after →
-          IfSome o (λ c. Tells (end_status played) (end_status told) (left_by setting (play (given_by c made.on.plays.met tick) setting (generated number))).state before after)
-      of None script is played leaves stops tells = search rules
-      of (Some c) script is (Ok refused) leaves stops tells =
-          subst (λ (z : Setting). Tells (finished_status refused) (end_status told) z.state before after)
-          (subst (λ (o : Option (List ℕ)). IfSome o (λ bytes. kept ≡ left_by setting (play (given_by c made.on.plays.met tick) setting bytes))) is leaves) (tells-by refused told kept.state before after tells)
-      of (Some c) script is (Err stop) leaves stops tells =
-          subst (λ (r : Result Bool Status). Tells stop (end_status r) (left_by setting (play (given_by c made.on.plays.met tick) setting (generated number))).state before after) (sym tells.0)
-          (tells-stop stop _ before after stops tells.1)
+    of : (o : Option Contents) (script : Option (List ℕ)) → script ≡ Some (generated number) → (played : Result Bool Status) →
+        OnOk played (IfSome o (λ c. IfSome script (λ bytes. kept ≡ left_by setting (play (given_by c made.on.plays.met tick) setting bytes)))) → IfErr played (λ stop. IsFinished stop → ⊥) → TellsLeft played told kept.state before after →
+        IfSome o (λ c. Tells (end_status played) (end_status told) (left_by setting (play (given_by c made.on.plays.met tick) setting (generated number))).state before after)
+    of None script is played leaves stops tells = search rules
+    of (Some c) script is (Ok refused) leaves stops tells =
+        subst (λ (z : Setting). Tells (finished_status refused) (end_status told) z.state before after)
+        (subst (λ (o : Option (List ℕ)). IfSome o (λ bytes. kept ≡ left_by setting (play (given_by c made.on.plays.met tick) setting bytes))) is leaves) (tells-by refused told kept.state before after tells)
+    of (Some c) script is (Err stop) leaves stops tells =
+        subst (λ (r : Result Bool Status). Tells stop (end_status r) (left_by setting (play (given_by c made.on.plays.met tick) setting (generated number))).state before after) (sym tells.0)
+        (tells-stop stop _ before after stops tells.1)
 
 -- a status that says why no store was opened, or no space attached, isn't one of a script that was played to its end
 pub opening-unfinished : (status : Status) → StopsOpening status → IsFinished status → ⊥
@@ -231,53 +230,52 @@ pub makes-all : (make : Option ℕ) (P : ℕ → Type 0) → ((number : ℕ) →
 makes-all None P each = search rules
 makes-all (Some number) P each = each number
 
-module _ {D : Type 0} (seen : D → Option (List ℕ)) (image : D → List ℕ → Type 0) (moment : D → ℕ) (image_since : D → ℕ → List ℕ → Type 0) (attached : D → Option (List (List ℕ × Bool))) (faults : D → ℕ) where
-  -- nothing was played
-  pub makes-none : (asked : Options) (old new : D) (before after : Outside) (spaces left : SpacesSeen) (premise : Type 0) (status : Status) (number : ℕ) → after.source ≡ before.source →
-      RunsMade seen image moment image_since faults old new spaces left asked premise status before.sink after.sink status (own_outside number before.probes) (own_outside number after.probes) →
-      Makes number before after (RunsMade seen image moment image_since faults old new spaces left asked premise status before.sink after.sink)
-  makes-none asked old new before after spaces left premise status number unread ran =
-      record {
-        played = status;
-        own = record { before = own_outside number before.probes; after = own_outside number after.probes; script_is = refl; reads = refl; writes = refl; begins = refl; asks = omega arith };
-        unread = unread;
-        says = ran;
-      }
+-- nothing was played
+pub makes-none : (asked : Options) (old new : DiskSeen) (before after : Outside) (spaces left : SpacesSeen) (premise : Type 0) (status : Status) (number : ℕ) → after.source ≡ before.source →
+    RunsMade old new spaces left asked premise status before.sink after.sink status (own_outside number before.probes) (own_outside number after.probes) →
+    Makes number before after (RunsMade old new spaces left asked premise status before.sink after.sink)
+makes-none asked old new before after spaces left premise status number unread ran =
+    record {
+      played = status;
+      own = record { before = own_outside number before.probes; after = own_outside number after.probes; script_is = refl; reads = refl; writes = refl; begins = refl; asks = omega arith };
+      unread = unread;
+      says = ran;
+    }
 
-  -- a store was opened, and the script was played on it
-  pub makes-opened : (counts_now : (disk : D) (t : ℕ) (c : List ℕ) → t ≤ moment disk → image disk c → image_since disk t c) (asked : Options) (old mid new : D) (setting : Setting) (before after : Outside) (spaces left : SpacesSeen) (status : Status) (number mid_probes : ℕ) →
-      MakesStore seen image moment image_since attached faults mid new asked.tick setting number before.sink after.sink spaces left mid_probes after.probes status → faults mid ≡ faults old → after.source ≡ before.source →
-      IfSome (seen old) (λ f. opening_outcome asked.fresh (held f) ≡ Ok setting) → IfSome (seen old) (λ f. mid_probes ≤ before.probes + loading f) → IfSome (seen old) (λ _. Stands (seen mid) (image mid) setting) →
-      IfSome (seen old) (λ f. IfOk (opening_outcome asked.fresh (held f)) (Opening seen image moment image_since attached faults asked.fresh (IsSettled (seen old) (image old)) old mid)) →
-      Makes number before after (RunsMade seen image moment image_since faults old new spaces left asked ⊤ status before.sink after.sink)
-  makes-opened counts_now asked old mid new setting before after spaces left status number mid_probes made quiet unread is few stands opening =
-      record {
-        played = made.played;
-        own = record {
-          before = record made.own.before { probes = before.probes };
-          after = made.own.after;
-          script_is = made.own.script_is;
-          reads = made.own.reads;
-          writes = made.own.writes;
-          begins = refl;
-          asks = made.own.asks;
-        };
-        unread = unread;
-        says =
-            ran-opened-with seen image moment image_since attached faults counts_now asked.fresh asked.tick (IsSettled (seen old) (image old)) old mid new setting made.own.before made.own.after before.probes spaces left made.played made.plays quiet
-            (λ given z script. Tells made.played status (left_by z (play given z script)).state before.sink after.sink) (seen old) is (subst (λ (n : ℕ). IfSome (seen old) (λ f. n ≤ before.probes + loading f)) (sym made.own.begins) few) stands opening (tells spaces.contents made.own.before.source.left made.own.script_is made.tells);
-      }
-    where
-      tells : (o : Option Contents) (script : Option (List ℕ)) → script ≡ Some (generated number) →
-          IfSome o (λ c. Tells made.played status (left_by setting (play (given_by c made.plays.met asked.tick) setting (generated number))).state before.sink after.sink) →
-          IfSome o (λ c. IfSome script (λ s. Tells made.played status (left_by setting (play (given_by c made.plays.met asked.tick) setting s)).state before.sink after.sink))
-      tells None script is told = search rules
-      tells (Some c) script is told =
-          subst (λ (l : Option (List ℕ)). IfSome l (λ s. Tells made.played status (left_by setting (play (given_by c made.plays.met asked.tick) setting s)).state before.sink after.sink)) (sym is) told
+-- a store was opened, and the script was played on it
+pub makes-opened : (asked : Options) (old mid new : DiskSeen) → IsLawful new → (setting : Setting) (before after : Outside) (spaces left : SpacesSeen) (status : Status) (number mid_probes : ℕ) →
+    MakesStore mid new asked.tick setting number before.sink after.sink spaces left mid_probes after.probes status → mid.faults ≡ old.faults → after.source ≡ before.source →
+    IfSome old.contents (λ f. opening_outcome asked.fresh (held f) ≡ Ok setting) → IfSome old.contents (λ f. mid_probes ≤ before.probes + loading f) → IfSome old.contents (λ _. Stands mid setting) →
+    IfSome old.contents (λ f. IfOk (opening_outcome asked.fresh (held f)) (Opening asked.fresh old mid)) →
+    Makes number before after (RunsMade old new spaces left asked ⊤ status before.sink after.sink)
+makes-opened asked old mid new lawful setting before after spaces left status number mid_probes made quiet unread is few stands opening =
+    record {
+      played = made.played;
+      own = record {
+        before = record made.own.before { probes = before.probes };
+        after = made.own.after;
+        script_is = made.own.script_is;
+        reads = made.own.reads;
+        writes = made.own.writes;
+        begins = refl;
+        asks = made.own.asks;
+      };
+      unread = unread;
+      says =
+          ran-opened-with asked.fresh asked.tick old mid new lawful setting made.own.before made.own.after before.probes spaces left made.played made.plays quiet
+          (λ given z script. Tells made.played status (left_by z (play given z script)).state before.sink after.sink) old.contents is (subst (λ (n : ℕ). IfSome old.contents (λ f. n ≤ before.probes + loading f)) (sym made.own.begins) few) stands opening (tells spaces.contents made.own.before.source.left made.own.script_is made.tells);
+    }
+  where
+    tells : (o : Option Contents) (script : Option (List ℕ)) → script ≡ Some (generated number) →
+        IfSome o (λ c. Tells made.played status (left_by setting (play (given_by c made.plays.met asked.tick) setting (generated number))).state before.sink after.sink) →
+        IfSome o (λ c. IfSome script (λ s. Tells made.played status (left_by setting (play (given_by c made.plays.met asked.tick) setting s)).state before.sink after.sink))
+    tells None script is told = search rules
+    tells (Some c) script is told =
+        subst (λ (l : Option (List ℕ)). IfSome l (λ s. Tells made.played status (left_by setting (play (given_by c made.plays.met asked.tick) setting s)).state before.sink after.sink)) (sym is) told
 
 -- how such a run ends
-pub made-ends : {D : Type 0} {seen : D → Option (List ℕ)} {image : D → List ℕ → Type 0} {moment : D → ℕ} {image_since : D → ℕ → List ℕ → Type 0} {attached : D → Option (List (List ℕ × Bool))} {faults : D → ℕ} {old new : D} {tick : ℕ} {setting : Setting} {number : ℕ}
-    {spaces left : SpacesSeen} {probes probes_now : ℕ} {status : Status} (before : Outside) (after : SinkSeen) → MakesStore seen image moment image_since attached faults old new tick setting number before.sink after spaces left probes probes_now status →
+pub made-ends : {old new : DiskSeen} {tick : ℕ} {setting : Setting} {number : ℕ}
+    {spaces left : SpacesSeen} {probes probes_now : ℕ} {status : Status} (before : Outside) (after : SinkSeen) → MakesStore old new tick setting number before.sink after spaces left probes probes_now status →
     Ends status before (outside before.source after probes_now)
 made-ends before after made = record {
   reads = subst (λ (b : Bool). ReportsFault b before.source.faults before.source.faults) (sym made.unread) refl;
@@ -291,46 +289,44 @@ pub makes-not : (make : Option ℕ) (P : ℕ → Type 0) → make ≡ None → I
 makes-not None P is = search rules
 makes-not (Some number) P is = absurd (true≢false (ap is_some is))
 
-module _ {D : Type 0} (seen : D → Option (List ℕ)) (image : D → List ℕ → Type 0) (moment : D → ℕ) (image_since : D → ℕ → List ℕ → Type 0) (attached : D → Option (List (List ℕ × Bool))) (faults : D → ℕ)
-    (only_now : (disk : D) (c : List ℕ) → image_since disk (moment disk) c → image disk c) (counts_now : (disk : D) (t : ℕ) (c : List ℕ) → t ≤ moment disk → image disk c → image_since disk t c) where
-  -- no store was opened
-  pub made-unopened : (asked : Options) (old new : D) (before : Outside) (now : ℕ) (spaces : SpacesSeen) (status : Status) → StopsOpening status → ReportsFault (is_disk_fault status) (faults old) (faults new) →
-      IfSome (seen old) (λ f. IsOpened (Err status) (opening_outcome asked.fresh (held f))) → IfSome (seen old) (λ f. now ≤ before.probes + loading f) →
-      IfSome (seen old) (λ f. IfOk (opening_outcome asked.fresh (held f)) (Opening seen image moment image_since attached faults asked.fresh (IsSettled (seen old) (image old)) old new)) →
-      (make : Option ℕ) → IfSome make (λ number. Makes number before (record before { probes = now }) (RunsMade seen image moment image_since faults old new spaces spaces asked ⊤ status before.sink before.sink))
-  made-unopened asked old new before now spaces status stops told opened few opening make =
-      makes-all make (λ number. Makes number before (record before { probes = now }) (RunsMade seen image moment image_since faults old new spaces spaces asked ⊤ status before.sink before.sink))
-      (λ number.
-      makes-none seen image moment image_since attached faults asked old new before (record before { probes = now }) spaces spaces ⊤ status number refl
-      (ran-unopened seen image moment image_since attached faults counts_now asked old new (own_outside number before.probes) now spaces (λ given setting script. Tells status status (left_by setting (play given setting script)).state before.sink before.sink)
-      (λ given setting script. tells-none status _ before.sink (opening-unfinished status stops)) status stops told opened few opening))
+-- no store was opened
+pub made-unopened : (asked : Options) (old new : DiskSeen) → IsLawful new → (before : Outside) (now : ℕ) (spaces : SpacesSeen) (status : Status) → StopsOpening status → ReportsFault (is_disk_fault status) old.faults new.faults →
+    IfSome old.contents (λ f. IsOpened (Err status) (opening_outcome asked.fresh (held f))) → IfSome old.contents (λ f. now ≤ before.probes + loading f) →
+    IfSome old.contents (λ f. IfOk (opening_outcome asked.fresh (held f)) (Opening asked.fresh old new)) →
+    (make : Option ℕ) → IfSome make (λ number. Makes number before (record before { probes = now }) (RunsMade old new spaces spaces asked ⊤ status before.sink before.sink))
+made-unopened asked old new lawful before now spaces status stops told opened few opening make =
+    makes-all make (λ number. Makes number before (record before { probes = now }) (RunsMade old new spaces spaces asked ⊤ status before.sink before.sink))
+    (λ number.
+    makes-none asked old new before (record before { probes = now }) spaces spaces ⊤ status number refl
+    (ran-unopened asked old new lawful (own_outside number before.probes) now spaces (λ given setting script. Tells status status (left_by setting (play given setting script)).state before.sink before.sink)
+    (λ given setting script. tells-none status _ before.sink (opening-unfinished status stops)) status stops told opened few opening))
 
-  -- no space was attached
-  pub made-unattached : (premise : Type 0) (status : Status) → IsUnattached status → (premise → is_bad_space status ≡ true → ⊥) → (asked : Options) (disk : D) (before : Outside) (old new : SpacesSeen) → old.faults ≤ new.faults →
-      (make : Option ℕ) → IfSome make (λ number. Makes number before before (RunsMade seen image moment image_since faults disk disk old new asked premise status before.sink before.sink))
-  made-unattached premise status un good asked disk before old new later make =
-      makes-all make (λ number. Makes number before before (RunsMade seen image moment image_since faults disk disk old new asked premise status before.sink before.sink))
-      (λ number.
-      makes-none seen image moment image_since attached faults asked disk disk before before old new premise status number refl
-      (ran-unattached seen image moment image_since attached faults only_now counts_now premise status un good asked disk (own_outside number before.probes) old new later
-      (λ given setting script. Tells status status (left_by setting (play given setting script)).state before.sink before.sink) (λ given setting script. tells-none status _ before.sink (unattached-unfinished status un))))
+-- no space was attached
+pub made-unattached : (premise : Type 0) (status : Status) → IsUnattached status → (premise → is_bad_space status ≡ true → ⊥) → (asked : Options) (disk : DiskSeen) → IsLawful disk → (before : Outside) (old new : SpacesSeen) → old.faults ≤ new.faults →
+    (make : Option ℕ) → IfSome make (λ number. Makes number before before (RunsMade disk disk old new asked premise status before.sink before.sink))
+made-unattached premise status un good asked disk lawful before old new later make =
+    makes-all make (λ number. Makes number before before (RunsMade disk disk old new asked premise status before.sink before.sink))
+    (λ number.
+    makes-none asked disk disk before before old new premise status number refl
+    (ran-unattached premise status un good asked disk lawful (own_outside number before.probes) old new later
+    (λ given setting script. Tells status status (left_by setting (play given setting script)).state before.sink before.sink) (λ given setting script. tells-none status _ before.sink (unattached-unfinished status un))))
 
-  -- memory ran out before any space was attached
-  pub memory-made : (premise : Options → Type 0) (words : Option Options) (disk : D) (before : Outside) (spaces : SpacesSeen) →
-      IfMakes words (λ asked number. Makes number before before (RunsMade seen image moment image_since faults disk disk spaces spaces asked (premise asked) Memory before.sink before.sink))
-  memory-made premise None disk before spaces = search rules
-  memory-made premise (Some asked) disk before spaces = made-unattached (premise asked) Memory tt (λ _ never. absurd (true≢false (sym never))) asked disk before spaces spaces (omega arith) asked.make
+-- memory ran out before any space was attached
+pub memory-made : (premise : Options → Type 0) (words : Option Options) (disk : DiskSeen) → IsLawful disk → (before : Outside) (spaces : SpacesSeen) →
+    IfMakes words (λ asked number. Makes number before before (RunsMade disk disk spaces spaces asked (premise asked) Memory before.sink before.sink))
+memory-made premise None disk lawful before spaces = search rules
+memory-made premise (Some asked) disk lawful before spaces = made-unattached (premise asked) Memory tt (λ _ never. absurd (true≢false (sym never))) asked disk lawful before spaces spaces (omega arith) asked.make
 
-  -- spaces were attached before
-  pub made-given : (asked : Options) (old new : D) (before after : Outside) (spaces mid left : SpacesSeen) (status : Status) (premise : Type 0) → mid.faults ≡ spaces.faults →
-      (make : Option ℕ) → IfSome make (λ number. Makes number before after (RunsMade seen image moment image_since faults old new mid left asked ⊤ status before.sink after.sink)) →
-      IfSome make (λ number. Makes number before after (RunsMade seen image moment image_since faults old new spaces left asked premise status before.sink after.sink))
-  made-given asked old new before after spaces mid left status premise same make made =
-      let was = RunsMade seen image moment image_since faults old new mid left asked ⊤ status before.sink after.sink in
-      let now = RunsMade seen image moment image_since faults old new spaces left asked premise status before.sink after.sink in
-      makes-each make (λ number. Makes number before after was) (λ number. Makes number before after now)
-      (λ number.
-      makes-given was now
-      (λ played own own_after.
-      ran-given seen image moment image_since faults old new spaces mid left same asked ⊤ premise (λ _. tt) own own_after played
-      (λ given setting script. Tells played status (left_by setting (play given setting script)).state before.sink after.sink))) made
+-- spaces were attached before
+pub made-given : (asked : Options) (old new : DiskSeen) (before after : Outside) (spaces mid left : SpacesSeen) (status : Status) (premise : Type 0) → mid.faults ≡ spaces.faults →
+    (make : Option ℕ) → IfSome make (λ number. Makes number before after (RunsMade old new mid left asked ⊤ status before.sink after.sink)) →
+    IfSome make (λ number. Makes number before after (RunsMade old new spaces left asked premise status before.sink after.sink))
+made-given asked old new before after spaces mid left status premise same make made =
+    let was = RunsMade old new mid left asked ⊤ status before.sink after.sink in
+    let now = RunsMade old new spaces left asked premise status before.sink after.sink in
+    makes-each make (λ number. Makes number before after was) (λ number. Makes number before after now)
+    (λ number.
+    makes-given was now
+    (λ played own own_after.
+    ran-given old new spaces mid left same asked ⊤ premise (λ _. tt) own own_after played
+    (λ given setting script. Tells played status (left_by setting (play given setting script)).state before.sink after.sink))) made

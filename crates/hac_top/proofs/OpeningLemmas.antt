@@ -5,6 +5,7 @@ use Rattle.std.specs.Option.{IfSome}
 use Rattle.std.specs.Result.{is_err}
 use Rattle.hac_disk.specs.Contents.{Attaches}
 use Rattle.hac_disk.specs.Images.{IsQuiet}
+use Rattle.hac_disk.specs.Seen.{DiskSeen}
 use Rattle.hac_outside.specs.Causes.{ReportsFault}
 use Rattle.hac_model.specs.Run.Play.{Setting, new_setting}
 use Rattle.hac_model.specs.Tree.Valid.{IsValid}
@@ -100,56 +101,52 @@ loaded-stands P None r opened is h = search rules
 loaded-stands P (Some file) r opened is h = subst (λ (o : Result Seen Status). IfOk o (λ opened. P opened.setting)) (sym is) (one-stands P r h)
 
 -- and it can go on
-one-usable : (told : Option (List ℕ)) (r : Result Seen StoreFault) → IfOk r (λ store. store.broken ≡ false) → IfOk r (λ store. Bears told store) → IfOk (opening_result r) (IsUsable told)
+one-usable : (told : DiskSeen) (r : Result Seen StoreFault) → IfOk r (λ store. store.broken ≡ false) → IfOk r (λ store. Bears told store) → IfOk (opening_result r) (IsUsable told)
 one-usable told (Ok opened) intact place = record { intact = intact; place = place }
 one-usable told (Err failed) intact place = search rules
 
-opened-usable : (told : Option (List ℕ)) (r : Result Seen StoreFault) (opened : Result Seen Status) → opened ≡ opening_result r → IfOk r (λ store. store.broken ≡ false) → IfOk r (λ store. Bears told store) → IfOk opened (IsUsable told)
+opened-usable : (told : DiskSeen) (r : Result Seen StoreFault) (opened : Result Seen Status) → opened ≡ opening_result r → IfOk r (λ store. store.broken ≡ false) → IfOk r (λ store. Bears told store) → IfOk opened (IsUsable told)
 opened-usable told r opened is intact place = subst (λ (o : Result Seen Status). IfOk o (IsUsable told)) (sym is) (one-usable told r intact place)
 
-pub made-usable : (told : Option (List ℕ)) (r : Result Seen StoreFault) (opened : Result Seen Status) → opened ≡ opening_result r → IfOk r (λ made. made ≡ first_store) → IfOk r (λ store. Bears told store) → IfOk opened (IsUsable told)
+pub made-usable : (told : DiskSeen) (r : Result Seen StoreFault) (opened : Result Seen Status) → opened ≡ opening_result r → IfOk r (λ made. made ≡ first_store) → IfOk r (λ store. Bears told store) → IfOk opened (IsUsable told)
 made-usable told r opened is first place = opened-usable told r opened is (intact r first) place
   where
     intact : (r : Result Seen StoreFault) → IfOk r (λ made. made ≡ first_store) → IfOk r (λ store. store.broken ≡ false)
     intact (Ok made) first = ap (λ (st : Seen). st.broken) first
     intact (Err failed) first = search rules
 
-pub loaded-usable : (told : Option (List ℕ)) (r : Result Seen StoreFault) (opened : Result Seen Status) → opened ≡ opening_result r → IfOk r (λ store. (store.broken ≡ false) × IsValid store.setting.state) → IfOk r (λ store. Bears told store) → IfOk opened (IsUsable told)
+pub loaded-usable : (told : DiskSeen) (r : Result Seen StoreFault) (opened : Result Seen Status) → opened ≡ opening_result r → IfOk r (λ store. (store.broken ≡ false) × IsValid store.setting.state) → IfOk r (λ store. Bears told store) → IfOk opened (IsUsable told)
 loaded-usable told r opened is sound place = opened-usable told r opened is (intact r sound) place
   where
     intact : (r : Result Seen StoreFault) → IfOk r (λ store. (store.broken ≡ false) × IsValid store.setting.state) → IfOk r (λ store. store.broken ≡ false)
     intact (Ok loaded) sound = sound.0
     intact (Err failed) sound = search rules
 
-module _ {D : Type 0} (seen : D → Option (List ℕ)) (image : D → List ℕ → Type 0) (moment : D → ℕ) (image_since : D → ℕ → List ℕ → Type 0) where
-  abbrev Quiet : D → D → Type 0
-  Quiet old new = IsQuiet seen image moment image_since old new
+-- two calls that write nothing
+pub quiet-then : (old mid new : DiskSeen) → IsQuiet old mid → IsQuiet mid new → IsQuiet old new
+quiet-then old mid new first second = record {
+  same = second.same ∙ first.same;
+  images = λ c h. first.images c (second.images c h);
+  later = omega (arith, first.later, second.later);
+  past = λ t c low h. first.past t c low (second.past t c (omega (arith, low, first.later)) h);
+  keeps = λ t c low h. second.keeps t c (omega (arith, low, first.later)) (first.keeps t c low h);
+}
 
-  -- two calls that write nothing
-  pub quiet-then : (old mid new : D) → Quiet old mid → Quiet mid new → Quiet old new
-  quiet-then old mid new first second = record {
-    same = second.same ∙ first.same;
-    images = λ c h. first.images c (second.images c h);
-    later = omega (arith, first.later, second.later);
-    past = λ t c low h. first.past t c low (second.past t c (omega (arith, low, first.later)) h);
-    keeps = λ t c low h. second.keeps t c (omega (arith, low, first.later)) (first.keeps t c low h);
-  }
+err-value : (Q : Type 0) (r : Result Setting Status) → Q → IfErr r (λ status. Q)
+err-value Q (Ok z) q = search rules
+err-value Q (Err status) q = q
 
-  err-value : (Q : Type 0) (r : Result Setting Status) → Q → IfErr r (λ status. Q)
-  err-value Q (Ok z) q = search rules
-  err-value Q (Err status) q = q
+-- a store was loaded, so nothing was written
+pub loaded-quiet : (told : Option (List ℕ)) (fresh : Bool) (old new : DiskSeen) → IsQuiet old new → IfSome told (λ file. IfErr (opening_outcome fresh (held file)) (λ status. IsQuiet old new))
+loaded-quiet None fresh old new quiet = search rules
+loaded-quiet (Some file) fresh old new quiet = err-value (IsQuiet old new) (opening_outcome fresh (held file)) quiet
 
-  -- a store was loaded, so nothing was written
-  pub loaded-quiet : (told : Option (List ℕ)) (fresh : Bool) (old new : D) → Quiet old new → IfSome told (λ file. IfErr (opening_outcome fresh (held file)) (λ status. Quiet old new))
-  loaded-quiet None fresh old new quiet = search rules
-  loaded-quiet (Some file) fresh old new quiet = err-value (Quiet old new) (opening_outcome fresh (held file)) quiet
+one-made : (kept : Result Setting ℕ) (old mid new : DiskSeen) → IsQuiet old mid → (IsOk kept → IsQuiet mid new) → IfErr (opening_outcome true kept) (λ status. IsQuiet old new)
+one-made (Ok setting) old mid new first second = quiet-then old mid new first (second refl)
+one-made (Err at) old mid new first second = search rules
 
-  one-made : (kept : Result Setting ℕ) (old mid new : D) → Quiet old mid → (IsOk kept → Quiet mid new) → IfErr (opening_outcome true kept) (λ status. Quiet old new)
-  one-made (Ok setting) old mid new first second = quiet-then old mid new first (second refl)
-  one-made (Err at) old mid new first second = search rules
-
-  -- a store was to be made where there is one
-  pub made-quiet : (told : Option (List ℕ)) (fresh : Bool) (old mid new : D) → Quiet old mid → fresh ≡ true → IfSome told (λ file. IsOk (held file) → Quiet mid new) → IfSome told (λ file. IfErr (opening_outcome fresh (held file)) (λ status. Quiet old new))
-  made-quiet None fresh old mid new first new_one second = search rules
-  made-quiet (Some file) fresh old mid new first new_one second =
-      subst (λ (b : Bool). IfErr (opening_outcome b (held file)) (λ status. Quiet old new)) (sym new_one) (one-made (held file) old mid new first second)
+-- a store was to be made where there is one
+pub made-quiet : (told : Option (List ℕ)) (fresh : Bool) (old mid new : DiskSeen) → IsQuiet old mid → fresh ≡ true → IfSome told (λ file. IsOk (held file) → IsQuiet mid new) → IfSome told (λ file. IfErr (opening_outcome fresh (held file)) (λ status. IsQuiet old new))
+made-quiet None fresh old mid new first new_one second = search rules
+made-quiet (Some file) fresh old mid new first new_one second =
+    subst (λ (b : Bool). IfErr (opening_outcome b (held file)) (λ status. IsQuiet old new)) (sym new_one) (one-made (held file) old mid new first second)

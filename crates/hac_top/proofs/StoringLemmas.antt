@@ -4,6 +4,7 @@ use Rattle.std.specs.Prelude.{if◌then◌else◌, filter, Option, None, Some, R
 use Rattle.std.specs.Option.{option_map_or}
 use Rattle.std.proofs.Math.Seq.{take-length}
 use Rattle.hac_disk.specs.Images.{LeavesOnly}
+use Rattle.hac_disk.specs.Seen.{DiskSeen, IsLawful}
 use Rattle.hac_disk.proofs.Moments.{started, weaken, then_run}
 use Rattle.hac_model.specs.Tree.Events.{apply, apply_all, changed_at, edited, indexed, next_dirty}
 use Rattle.hac_model.specs.Run.Play.{Setting, Turn, after_events, all_events, end_behind, have_room, next_place, nothing_given, refused_turn, stored_setting}
@@ -19,7 +20,6 @@ use Rattle.hac_store.specs.Storing.{StoresEvents}
 use Rattle.hac_store.specs.Stores.{Bears, HeldBetween, Seen, Stands, fit_behind, store_after, unstored_after}
 use Rattle.hac_store.specs.declared.fault.StoreFault.{StoreFault}
 use Rattle.hac_store.specs.declared.fault.StoreFault.TheVariants as fault
-use Rattle.hac_store.proofs.PutLemmas.{stands-each}
 use Rattle.hac_top.specs.Crashes.{Holds, IsTreeAfter}
 use Rattle.hac_store.specs.Checkpointing.{Checkpoints, HoldsState}
 use Rattle.hac_top.specs.Deciding.{saved_turn, saving_turn, standing_turn, storing_turn, turn_with}
@@ -71,31 +71,29 @@ pub turn-events : (setting : Setting) (events : List Event) → have_room settin
 turn-events setting events room = ap (λ (turn : Turn). all_events (turn ∷ [])) (storing-turn setting events true room) ∙ append-nil (events ++ []) ∙ append-nil events
 
 -- a disk stands for all that is stored alike
-stands-same : (seen : Option (List ℕ)) (image : List ℕ → Type 0) (z w : Setting) → stored_setting z ≡ stored_setting w → Stands seen image z → Stands seen image w
-stands-same None image z w same stands = stands
-stands-same (Some file) image z w same stands = λ c left. stands c left ∙ ap Ok same
+stands-same : (disk : DiskSeen) (z w : Setting) → stored_setting z ≡ stored_setting w → Stands disk z → Stands disk w
+stands-same disk z w same stands = record { file = stands.file; is = stands.is; each = λ c left. stands.each c left ∙ ap Ok same }
 
-module _ {D : Type 0} {seen : D → Option (List ℕ)} {image : D → List ℕ → Type 0} {moment : D → ℕ} {image_since : D → ℕ → List ℕ → Type 0} {attached : D → Option (List (List ℕ × Bool))} {faults : D → ℕ}
-    (only_now : (disk : D) (c : List ℕ) → image_since disk (moment disk) c → image disk c) where
+module _ (disk : DiskSeen) (lawful : IsLawful disk) where
   -- the disk isn't touched
-  pub stores-nothing : (disk : D) (setting : Setting) (events : List Event) → Stores seen image moment image_since attached faults disk disk setting events false
-  stores-nothing disk setting events =
+  pub stores-nothing : (setting : Setting) (events : List Event) → Stores disk disk setting events false
+  stores-nothing setting events =
       record {
         moments = λ stands.
-            started moment image_since disk (Holds (IsTreeAfter (stored setting.state) events)) (λ c left. held-before setting events c (stands-each (seen disk) (image disk) setting stands c (only_now disk c left)));
+            started disk (Holds (IsTreeAfter (stored setting.state) events)) (λ c left. held-before setting events c (stands.each c (lawful.only_now c left)));
         names = refl;
         reported = refl;
       }
 
   -- a reply without events
-  pub answers-only : (disk : D) (store : Seen) (reply : Reply) → Bears (seen disk) store → StoresTurn seen image moment image_since attached faults disk disk store store (turn_with store.setting reply []) (Ok reply)
-  answers-only disk store reply place =
-      record { ok = record { reply_is = refl; on = record { setting = refl; intact = refl; place = place; stands = λ stands. stands } }; err = tt; stores = stores-nothing disk store.setting [] }
+  pub answers-only : (store : Seen) (reply : Reply) → Bears disk store → StoresTurn disk disk store store (turn_with store.setting reply []) (Ok reply)
+  answers-only store reply place =
+      record { ok = record { reply_is = refl; on = record { setting = refl; intact = refl; place = place; stands = λ stands. stands } }; err = tt; stores = stores-nothing store.setting [] }
 
   -- a session moves, and what is stored stays
-  pub moves-session : (disk : D) (store now : Seen) (event : Event) → is_stored event ≡ false → now ≡ record store { setting = unstored_after store.setting event } → Bears (seen disk) store →
-      StoresTurn seen image moment image_since attached faults disk disk store now (standing_turn store.setting event) (Ok (Lines []))
-  moves-session disk store now event unstored is place =
+  pub moves-session : (store now : Seen) (event : Event) → is_stored event ≡ false → now ≡ record store { setting = unstored_after store.setting event } → Bears disk store →
+      StoresTurn disk disk store now (standing_turn store.setting event) (Ok (Lines []))
+  moves-session store now event unstored is place =
       let kept : stored_setting store.setting ≡ stored_setting (unstored_after store.setting event) = ap (λ (s : State). record store.setting { state = s }) (sym (unstored-same store.setting.state event unstored)) in
       record {
         ok = record {
@@ -103,114 +101,114 @@ module _ {D : Type 0} {seen : D → Option (List ℕ)} {image : D → List ℕ �
           on = record {
             setting = ap (λ (z : Seen). z.setting) is;
             intact = ap (λ (z : Seen). z.broken) is;
-            place = subst (λ (z : Seen). Bears (seen disk) z) (sym is) place;
+            place = subst (λ (z : Seen). Bears disk z) (sym is) place;
             stands = λ stands.
-                subst (λ (z : Seen). Stands (seen disk) (image disk) z.setting) (sym is) (stands-same (seen disk) (image disk) store.setting (unstored_after store.setting event) kept stands);
+                subst (λ (z : Seen). Stands disk z.setting) (sym is) (stands-same disk store.setting (unstored_after store.setting event) kept stands);
           };
         };
         err = tt;
-        stores = stores-nothing disk store.setting [];
+        stores = stores-nothing store.setting [];
       }
 
   -- memory runs out before anything is stored
-  pub stops-first : (disk : D) (store : Seen) (turn : Turn) → StoresTurn seen image moment image_since attached faults disk disk store store turn (Err Memory)
-  stops-first disk store turn = record { ok = tt; err = tt; stores = stores-nothing disk store.setting (all_events (turn ∷ [])) }
+  pub stops-first : (store : Seen) (turn : Turn) → StoresTurn disk disk store store turn (Err Memory)
+  stops-first store turn = record { ok = tt; err = tt; stores = stores-nothing store.setting (all_events (turn ∷ [])) }
 
   -- the store is full
-  pub full-turn : (disk : D) (store : Seen) (events : List Event) → Bears (seen disk) store → have_room store.setting events ≡ false →
-      StoresTurn seen image moment image_since attached faults disk disk store store (storing_turn store.setting events) (Ok (Refused (Limit Store)))
-  full-turn disk store events place full =
-      subst (λ (turn : Turn). StoresTurn seen image moment image_since attached faults disk disk store store turn (Ok (Refused (Limit Store)))) (sym (storing-turn store.setting events false full))
-      (answers-only disk store (Refused (Limit Store)) place)
+  pub full-turn : (store : Seen) (events : List Event) → Bears disk store → have_room store.setting events ≡ false →
+      StoresTurn disk disk store store (storing_turn store.setting events) (Ok (Refused (Limit Store)))
+  full-turn store events place full =
+      subst (λ (turn : Turn). StoresTurn disk disk store store turn (Ok (Refused (Limit Store)))) (sym (storing-turn store.setting events false full))
+      (answers-only store (Refused (Limit Store)) place)
 
-  -- one call, before and after which the store is held
-  once : (old new : D) (before : Seen) (events : List Event) (failed : Bool) → AreStored events → have_room before.setting events ≡ true → (Stands (seen old) (image old) before.setting → LeavesOnly moment image_since old new (HeldBetween before.setting events)) → attached new ≡ attached old →
-      ReportsFault failed (faults old) (faults new) → Stores seen image moment image_since attached faults old new before.setting (all_events (storing_turn before.setting events ∷ [])) failed
-  once old new before events failed all room moments names told =
+-- one call, before and after which the store is held
+once : (old new : DiskSeen) (before : Seen) (events : List Event) (failed : Bool) → AreStored events → have_room before.setting events ≡ true → (Stands old before.setting → LeavesOnly old new (HeldBetween before.setting events)) → new.attached ≡ old.attached →
+    ReportsFault failed old.faults new.faults → Stores old new before.setting (all_events (storing_turn before.setting events ∷ [])) failed
+once old new before events failed all room moments names told =
+    record {
+      moments = λ stands.
+          subst (λ (es : List Event). LeavesOnly old new (Holds (IsTreeAfter (stored before.setting.state) es))) (sym (turn-events before.setting events room))
+          (weaken old new (HeldBetween before.setting events) (Holds (IsTreeAfter (stored before.setting.state) events)) (λ c. held-between before.setting events c all) (moments stands));
+      names = names;
+      reported = told;
+    }
+
+module _ {D : Type 0} {seen : D → DiskSeen} {old new : D} {before after : Seen} {events : List Event} (lawful : IsLawful (seen old)) where
+  pub stores-once : (result : Result (Unit {0}) StoreFault) → AreStored events → Bears (seen old) before → StoresEvents seen old new before after events result →
+      StoresTurn (seen old) (seen new) before after (storing_turn before.setting events) (storing_reply result)
+  stores-once (Ok done) all place went =
+      let turn = storing-turn before.setting events true went.ends.room in
       record {
-        moments = λ stands.
-            subst (λ (es : List Event). LeavesOnly moment image_since old new (Holds (IsTreeAfter (stored before.setting.state) es))) (sym (turn-events before.setting events room))
-            (weaken moment image_since old new (HeldBetween before.setting events) (Holds (IsTreeAfter (stored before.setting.state) events)) (λ c. held-between before.setting events c all) (moments stands));
-        names = names;
-        reported = told;
+        ok = record {
+          reply_is = ap (λ (t : Turn). t.reply) (sym turn);
+          on = record {
+            setting = ap (λ (z : Seen). z.setting) went.ends.store ∙ ap (λ (t : Turn). t.after) (sym turn);
+            intact = ap (λ (z : Seen). z.broken) went.ends.store;
+            place = went.ends.place;
+            stands = went.stands;
+          };
+        };
+        err = tt;
+        stores = once (seen old) (seen new) before events false all went.ends.room went.moments went.names went.reported;
       }
+  stores-once (Err fault.Full) all place went =
+      subst (λ (store : Seen). StoresTurn (seen old) (seen new) before store (storing_turn before.setting events) (Ok (Refused (Limit Store)))) (sym went.ends.1.0)
+      (subst (λ (disk : D). StoresTurn (seen old) (seen disk) before before (storing_turn before.setting events) (Ok (Refused (Limit Store)))) (sym went.ends.1.1)
+      (full-turn (seen old) lawful before events place went.ends.0))
+  stores-once (Err fault.Memory) all place went =
+      subst (λ (store : Seen). StoresTurn (seen old) (seen new) before store (storing_turn before.setting events) (Err Memory)) (sym went.ends.0)
+      (subst (λ (disk : D). StoresTurn (seen old) (seen disk) before before (storing_turn before.setting events) (Err Memory)) (sym went.ends.1)
+      (stops-first (seen old) lawful before (storing_turn before.setting events)))
+  stores-once (Err fault.Disk) all place went = record { ok = tt; err = tt; stores = once (seen old) (seen new) before events true all went.ends.0 went.moments went.names went.reported }
+  stores-once (Err (fault.NotStore at)) all place went = absurd went.ends
+  stores-once (Err fault.AlreadyStore) all place went = absurd went.ends
 
-  module _ {old new : D} {before after : Seen} {events : List Event} where
-    pub stores-once : (result : Result (Unit {0}) StoreFault) → AreStored events → Bears (seen old) before → StoresEvents seen image moment image_since attached faults old new before after events result →
-        StoresTurn seen image moment image_since attached faults old new before after (storing_turn before.setting events) (storing_reply result)
-    stores-once (Ok done) all place went =
-        let turn = storing-turn before.setting events true went.ends.room in
-        record {
-          ok = record {
-            reply_is = ap (λ (t : Turn). t.reply) (sym turn);
-            on = record {
-              setting = ap (λ (z : Seen). z.setting) went.ends.store ∙ ap (λ (t : Turn). t.after) (sym turn);
-              intact = ap (λ (z : Seen). z.broken) went.ends.store;
-              place = went.ends.place;
-              stands = went.stands;
-            };
+-- A new area that is begun with the whole state.
+
+-- a crash at each moment leaves what was held, which is the tree before any event
+holding : (old new : DiskSeen) (before : Seen) (events : List Event) (failed : Bool) → (Stands old before.setting → LeavesOnly old new (HoldsState before.setting.state)) → new.attached ≡ old.attached →
+    ReportsFault failed old.faults new.faults → Stores old new before.setting events failed
+holding old new before events failed moments names told =
+    record {
+      moments = λ stands.
+          weaken old new (HoldsState before.setting.state) (Holds (IsTreeAfter (stored before.setting.state) events))
+          (λ c holds. record { kept = holds.0; is = holds.1; state = record { count = 0; within = omega arith; is = holds.2 } }) (moments stands);
+      names = names;
+      reported = told;
+    }
+
+module _ {D : Type 0} {seen : D → DiskSeen} {old new : D} {before after : Seen} (lawful : IsLawful (seen old)) where
+  pub stores-saved : (result : Result (Unit {0}) StoreFault) → Bears (seen old) before → Checkpoints seen old new before after result →
+      StoresTurn (seen old) (seen new) before after (saving_turn before.setting) (storing_reply result)
+  stores-saved (Ok done) place went =
+      let made = went.ends.1 in
+      let turn = saving-turn before.setting (Some went.ends.0) made.free in
+      record {
+        ok = record {
+          reply_is = ap (λ (t : Turn). t.reply) (sym turn);
+          on = record {
+            setting = ap (λ (z : Seen). z.setting) made.store ∙ ap (λ (t : Turn). t.after) (sym turn);
+            intact = ap (λ (z : Seen). z.broken) made.store;
+            place = made.place;
+            stands = went.stands;
           };
-          err = tt;
-          stores = once old new before events false all went.ends.room went.moments went.names went.reported;
-        }
-    stores-once (Err fault.Full) all place went =
-        subst (λ (store : Seen). StoresTurn seen image moment image_since attached faults old new before store (storing_turn before.setting events) (Ok (Refused (Limit Store)))) (sym went.ends.1.0)
-        (subst (λ (disk : D). StoresTurn seen image moment image_since attached faults old disk before before (storing_turn before.setting events) (Ok (Refused (Limit Store)))) (sym went.ends.1.1)
-        (full-turn old before events place went.ends.0))
-    stores-once (Err fault.Memory) all place went =
-        subst (λ (store : Seen). StoresTurn seen image moment image_since attached faults old new before store (storing_turn before.setting events) (Err Memory)) (sym went.ends.0)
-        (subst (λ (disk : D). StoresTurn seen image moment image_since attached faults old disk before before (storing_turn before.setting events) (Err Memory)) (sym went.ends.1)
-        (stops-first old before (storing_turn before.setting events)))
-    stores-once (Err fault.Disk) all place went = record { ok = tt; err = tt; stores = once old new before events true all went.ends.0 went.moments went.names went.reported }
-    stores-once (Err (fault.NotStore at)) all place went = absurd went.ends
-    stores-once (Err fault.AlreadyStore) all place went = absurd went.ends
-
-  -- A new area that is begun with the whole state.
-
-  module _ {old new : D} where
-    -- a crash at each moment leaves what was held, which is the tree before any event
-    holding : (before : Seen) (events : List Event) (failed : Bool) → (Stands (seen old) (image old) before.setting → LeavesOnly moment image_since old new (HoldsState before.setting.state)) → attached new ≡ attached old →
-        ReportsFault failed (faults old) (faults new) → Stores seen image moment image_since attached faults old new before.setting events failed
-    holding before events failed moments names told =
-        record {
-          moments = λ stands.
-              weaken moment image_since old new (HoldsState before.setting.state) (Holds (IsTreeAfter (stored before.setting.state) events))
-              (λ c holds. record { kept = holds.0; is = holds.1; state = record { count = 0; within = omega arith; is = holds.2 } }) (moments stands);
-          names = names;
-          reported = told;
-        }
-
-    pub stores-saved : {before after : Seen} (result : Result (Unit {0}) StoreFault) → Bears (seen old) before → Checkpoints seen image moment image_since attached faults old new before after result →
-        StoresTurn seen image moment image_since attached faults old new before after (saving_turn before.setting) (storing_reply result)
-    stores-saved {before} {after} (Ok done) place went =
-        let made = went.ends.1 in
-        let turn = saving-turn before.setting (Some went.ends.0) made.free in
-        record {
-          ok = record {
-            reply_is = ap (λ (t : Turn). t.reply) (sym turn);
-            on = record {
-              setting = ap (λ (z : Seen). z.setting) made.store ∙ ap (λ (t : Turn). t.after) (sym turn);
-              intact = ap (λ (z : Seen). z.broken) made.store;
-              place = made.place;
-              stands = went.stands;
-            };
-          };
-          err = tt;
-          stores = holding before (all_events (saving_turn before.setting ∷ [])) false went.moments went.names went.reported;
-        }
-    stores-saved {before} {after} (Err fault.Full) place went =
-        subst (λ (store : Seen). StoresTurn seen image moment image_since attached faults old new before store (saving_turn before.setting) (Ok (Refused (Limit Store)))) (sym went.ends.1.0)
-        (subst (λ (disk : D). StoresTurn seen image moment image_since attached faults old disk before before (saving_turn before.setting) (Ok (Refused (Limit Store)))) (sym went.ends.1.1)
-        (subst (λ (turn : Turn). StoresTurn seen image moment image_since attached faults old old before before turn (Ok (Refused (Limit Store)))) (sym (saving-turn before.setting None went.ends.0))
-        (answers-only old before (Refused (Limit Store)) place)))
-    stores-saved {before} {after} (Err fault.Memory) place went =
-        subst (λ (store : Seen). StoresTurn seen image moment image_since attached faults old new before store (saving_turn before.setting) (Err Memory)) (sym went.ends.0)
-        (subst (λ (disk : D). StoresTurn seen image moment image_since attached faults old disk before before (saving_turn before.setting) (Err Memory)) (sym went.ends.1)
-        (stops-first old before (saving_turn before.setting)))
-    stores-saved {before} {after} (Err fault.Disk) place went =
-        record { ok = tt; err = tt; stores = holding before (all_events (saving_turn before.setting ∷ [])) true went.moments went.names went.reported }
-    stores-saved {before} {after} (Err (fault.NotStore at)) place went = absurd went.ends
-    stores-saved {before} {after} (Err fault.AlreadyStore) place went = absurd went.ends
+        };
+        err = tt;
+        stores = holding (seen old) (seen new) before (all_events (saving_turn before.setting ∷ [])) false went.moments went.names went.reported;
+      }
+  stores-saved (Err fault.Full) place went =
+      subst (λ (store : Seen). StoresTurn (seen old) (seen new) before store (saving_turn before.setting) (Ok (Refused (Limit Store)))) (sym went.ends.1.0)
+      (subst (λ (disk : D). StoresTurn (seen old) (seen disk) before before (saving_turn before.setting) (Ok (Refused (Limit Store)))) (sym went.ends.1.1)
+      (subst (λ (turn : Turn). StoresTurn (seen old) (seen old) before before turn (Ok (Refused (Limit Store)))) (sym (saving-turn before.setting None went.ends.0))
+      (answers-only (seen old) lawful before (Refused (Limit Store)) place)))
+  stores-saved (Err fault.Memory) place went =
+      subst (λ (store : Seen). StoresTurn (seen old) (seen new) before store (saving_turn before.setting) (Err Memory)) (sym went.ends.0)
+      (subst (λ (disk : D). StoresTurn (seen old) (seen disk) before before (saving_turn before.setting) (Err Memory)) (sym went.ends.1)
+      (stops-first (seen old) lawful before (saving_turn before.setting)))
+  stores-saved (Err fault.Disk) place went =
+      record { ok = tt; err = tt; stores = holding (seen old) (seen new) before (all_events (saving_turn before.setting ∷ [])) true went.moments went.names went.reported }
+  stores-saved (Err (fault.NotStore at)) place went = absurd went.ends
+  stores-saved (Err fault.AlreadyStore) place went = absurd went.ends
 
 -- a count that rose since a later moment rose since an earlier one
 pub told-since : (failed : Bool) (a b c : ℕ) → b ≡ a → ReportsFault failed b c → ReportsFault failed a c
@@ -294,124 +292,123 @@ part-room version end done batch count few some fits =
     grind (arith, nat_tests, at, below, few)
 
 -- of all steps, for which there is room, the first ones have happened; a crash since then leaves some of all
-pub record Stepped {D : Type 0} (seen : D → Option (List ℕ)) (image : D → List ℕ → Type 0) (moment : D → ℕ) (image_since : D → ℕ → List ℕ → Type 0) (attached : D → Option (List (List ℕ × Bool))) (faults : D → ℕ) (old now : D) (first store : Seen) (done count : ℕ) : Type 0 where
+pub record Stepped (old now : DiskSeen) (first store : Seen) (done count : ℕ) : Type 0 where
   pub room : fit_behind first.setting.state.version first.setting.end count 2 ≡ true
   pub store_is : store ≡ store_after first (steps done)
-  pub place : Bears (seen now) store
-  pub stands : Stands (seen old) (image old) first.setting → Stands (seen now) (image now) store.setting
-  pub moments : Stands (seen old) (image old) first.setting → LeavesOnly moment image_since old now (HoldsSome first.setting count)
-  pub names : attached now ≡ attached old
-  pub quiet : faults now ≡ faults old
+  pub place : Bears now store
+  pub stands : Stands old first.setting → Stands now store.setting
+  pub moments : Stands old first.setting → LeavesOnly old now (HoldsSome first.setting count)
+  pub names : now.attached ≡ old.attached
+  pub quiet : now.faults ≡ old.faults
 
-module _ {D : Type 0} {seen : D → Option (List ℕ)} {image : D → List ℕ → Type 0} {moment : D → ℕ} {image_since : D → ℕ → List ℕ → Type 0} {attached : D → Option (List (List ℕ × Bool))} {faults : D → ℕ} where
-  -- none has happened yet
-  pub none-stepped : ((disk : D) (c : List ℕ) → image_since disk (moment disk) c → image disk c) → (disk : D) (first : Seen) (done count : ℕ) → done ≡ 0 → fit_behind first.setting.state.version first.setting.end count 2 ≡ true → Bears (seen disk) first → Stepped seen image moment image_since attached faults disk disk first first done count
-  none-stepped only_now disk first done count none room place =
-      let events = all_events (storing_turn first.setting (steps count) ∷ []) in
-      let nothing : Stores seen image moment image_since attached faults disk disk first.setting events false = stores-nothing only_now disk first.setting events in
+-- none has happened yet
+pub none-stepped : (disk : DiskSeen) → IsLawful disk → (first : Seen) (done count : ℕ) → done ≡ 0 → fit_behind first.setting.state.version first.setting.end count 2 ≡ true → Bears disk first → Stepped disk disk first first done count
+none-stepped disk lawful first done count none room place =
+    let events = all_events (storing_turn first.setting (steps count) ∷ []) in
+    let nothing : Stores disk disk first.setting events false = stores-nothing disk lawful first.setting events in
+    record {
+      room = room;
+      store_is = ap (λ (n : ℕ). store_after first (steps n)) (sym none);
+      place = place;
+      stands = λ stands. stands;
+      moments = nothing.moments;
+      names = refl;
+      quiet = refl;
+    }
+
+module _ {old now : DiskSeen} {first store : Seen} {done count : ℕ} (was : Stepped old now first store done count) where
+  pub part-happens : (batch : ℕ) → done + batch ≤ count → AllHappen first.setting.state (steps count) → AllHappen store.setting.state (steps batch)
+  part-happens batch few happen =
+      subst (λ (z : Seen). AllHappen z.setting.state (steps batch)) (sym was.store_is) (happen-behind first.setting.state done batch count few happen)
+
+  -- all have happened
+  pub all-stepped : done ≡ count → StoresTurn old now first store (storing_turn first.setting (steps count)) (storing_reply (Ok tt))
+  all-stepped all =
+      let room : have_room first.setting (steps count) ≡ true = steps-have-room first.setting count ∙ was.room in
+      let turn = storing-turn first.setting (steps count) true room in
       record {
-        room = room;
-        store_is = ap (λ (n : ℕ). store_after first (steps n)) (sym none);
-        place = place;
-        stands = λ stands. stands;
-        moments = nothing.moments;
-        names = refl;
-        quiet = refl;
+        ok = record {
+          reply_is = ap (λ (t : Turn). t.reply) (sym turn);
+          on = record {
+            setting = ap (λ (z : Seen). z.setting) was.store_is ∙ ap (λ (n : ℕ). after_events first.setting (steps n)) all ∙ ap (λ (t : Turn). t.after) (sym turn);
+            intact = ap (λ (z : Seen). z.broken) was.store_is;
+            place = was.place;
+            stands = was.stands;
+          };
+        };
+        err = tt;
+        stores = record { moments = was.moments; names = was.names; reported = was.quiet };
       }
 
-  module _ {old now : D} {first store : Seen} {done count : ℕ} (was : Stepped seen image moment image_since attached faults old now first store done count) where
-    pub part-happens : (batch : ℕ) → done + batch ≤ count → AllHappen first.setting.state (steps count) → AllHappen store.setting.state (steps batch)
-    part-happens batch few happen =
-        subst (λ (z : Seen). AllHappen z.setting.state (steps batch)) (sym was.store_is) (happen-behind first.setting.state done batch count few happen)
+module _ {D : Type 0} (seen : D → DiskSeen) (mid new : D) {old : DiskSeen} {first store after : Seen} {done count : ℕ} (was : Stepped old (seen mid) first store done count)
+    (batch : ℕ) (few : done + batch ≤ count) where
+  part-moments : (result : Result (Unit {0}) StoreFault) → StoresEvents seen mid new store after (steps batch) result → Stands old first.setting → LeavesOnly old (seen new) (HoldsSome first.setting count)
+  part-moments result went stands =
+      then_run old (seen mid) (seen new) (HoldsSome first.setting count) (was.moments stands)
+      (weaken (seen mid) (seen new) (HeldBetween store.setting (steps batch)) (HoldsSome first.setting count)
+      (λ c between.
+      subst (λ (es : List Event). Holds (IsTreeAfter (stored first.setting.state) es) c) (sym (turn-events first.setting (steps count) (steps-have-room first.setting count ∙ was.room)))
+      (part-held first.setting done batch count c few (subst (λ (z : Seen). HeldBetween z.setting (steps batch) c) was.store_is between))) (went.moments (was.stands stands)))
 
-    -- all have happened
-    pub all-stepped : done ≡ count → StoresTurn seen image moment image_since attached faults old now first store (storing_turn first.setting (steps count)) (storing_reply (Ok tt))
-    all-stepped all =
-        let room : have_room first.setting (steps count) ≡ true = steps-have-room first.setting count ∙ was.room in
-        let turn = storing-turn first.setting (steps count) true room in
-        record {
-          ok = record {
-            reply_is = ap (λ (t : Turn). t.reply) (sym turn);
-            on = record {
-              setting = ap (λ (z : Seen). z.setting) was.store_is ∙ ap (λ (n : ℕ). after_events first.setting (steps n)) all ∙ ap (λ (t : Turn). t.after) (sym turn);
-              intact = ap (λ (z : Seen). z.broken) was.store_is;
-              place = was.place;
-              stands = was.stands;
-            };
-          };
-          err = tt;
-          stores = record { moments = was.moments; names = was.names; reported = was.quiet };
-        }
+  -- one part more
+  pub part-stepped : StoresEvents seen mid new store after (steps batch) (Ok tt) → (next : ℕ) → done + batch ≡ next → Stepped old (seen new) first after next count
+  part-stepped went next is =
+      record {
+        room = was.room;
+        store_is = went.ends.store ∙ ap (λ (z : Seen). store_after z (steps batch)) was.store_is ∙ ap (λ (z : Setting). record first { setting = z }) (after-steps first.setting done batch ∙ ap (λ (n : ℕ). after_events first.setting (steps n)) is);
+        place = went.ends.place;
+        stands = λ stands. went.stands (was.stands stands);
+        moments = part-moments (Ok tt) went;
+        names = went.names ∙ was.names;
+        quiet = went.reported ∙ was.quiet;
+      }
 
-    module _ {new : D} {after : Seen} (batch : ℕ) (few : done + batch ≤ count) where
-      part-moments : (result : Result (Unit {0}) StoreFault) → StoresEvents seen image moment image_since attached faults now new store after (steps batch) result → Stands (seen old) (image old) first.setting → LeavesOnly moment image_since old new (HoldsSome first.setting count)
-      part-moments result went stands =
-          then_run moment image_since old now new (HoldsSome first.setting count) (was.moments stands)
-          (weaken moment image_since now new (HeldBetween store.setting (steps batch)) (HoldsSome first.setting count)
-          (λ c between.
-          subst (λ (es : List Event). Holds (IsTreeAfter (stored first.setting.state) es) c) (sym (turn-events first.setting (steps count) (steps-have-room first.setting count ∙ was.room)))
-          (part-held first.setting done batch count c few (subst (λ (z : Seen). HeldBetween z.setting (steps batch) c) was.store_is between))) (went.moments (was.stands stands)))
+  stopped : (failed : Bool) (reason : StoreFault) → StoresEvents seen mid new store after (steps batch) (Err reason) → ReportsFault failed (seen mid).faults (seen new).faults →
+      Stores old (seen new) first.setting (all_events (storing_turn first.setting (steps count) ∷ [])) failed
+  stopped failed reason went told =
+      record { moments = part-moments (Err reason) went; names = went.names ∙ was.names; reported = told-since failed old.faults (seen mid).faults (seen new).faults was.quiet told }
 
-      -- one part more
-      pub part-stepped : StoresEvents seen image moment image_since attached faults now new store after (steps batch) (Ok tt) → (next : ℕ) → done + batch ≡ next → Stepped seen image moment image_since attached faults old new first after next count
-      part-stepped went next is =
-          record {
-            room = was.room;
-            store_is = went.ends.store ∙ ap (λ (z : Seen). store_after z (steps batch)) was.store_is ∙ ap (λ (z : Setting). record first { setting = z }) (after-steps first.setting done batch ∙ ap (λ (n : ℕ). after_events first.setting (steps n)) is);
-            place = went.ends.place;
-            stands = λ stands. went.stands (was.stands stands);
-            moments = part-moments (Ok tt) went;
-            names = went.names ∙ was.names;
-            quiet = went.reported ∙ was.quiet;
-          }
-
-      stopped : (failed : Bool) (reason : StoreFault) → StoresEvents seen image moment image_since attached faults now new store after (steps batch) (Err reason) → ReportsFault failed (faults now) (faults new) →
-          Stores seen image moment image_since attached faults old new first.setting (all_events (storing_turn first.setting (steps count) ∷ [])) failed
-      stopped failed reason went told =
-          record { moments = part-moments (Err reason) went; names = went.names ∙ was.names; reported = told-since failed (faults old) (faults now) (faults new) was.quiet told }
-
-      -- or none, and then the disk failed or memory ran out, as there is room for all
-      pub part-stopped : 0 < batch → (reason : StoreFault) → StoresEvents seen image moment image_since attached faults now new store after (steps batch) (Err reason) →
-          StoresTurn seen image moment image_since attached faults old new first after (storing_turn first.setting (steps count)) (storing_reply (Err reason))
-      part-stopped some fault.Disk went = record { ok = tt; err = tt; stores = stopped true fault.Disk went went.reported }
-      part-stopped some fault.Memory went = record { ok = tt; err = tt; stores = stopped false fault.Memory went went.reported }
-      part-stopped some fault.Full went =
-          let fits : fit_behind store.setting.state.version store.setting.end batch 2 ≡ true =
-          subst (λ (z : Seen). fit_behind z.setting.state.version z.setting.end batch 2 ≡ true) (sym was.store_is)
-          (subst (λ (version : Version). fit_behind version (end_behind first.setting.state.version first.setting.end (steps done)) batch 2 ≡ true) (sym (apply_all-version first.setting.state (steps done)))
-          (part-room first.setting.state.version first.setting.end done batch count few some was.room)) in
-          let never : false ≡ true = sym went.ends.0 ∙ steps-have-room store.setting batch ∙ fits in
-          absurd cc
-      part-stopped some (fault.NotStore at) went = absurd went.ends
-      part-stopped some fault.AlreadyStore went = absurd went.ends
+  -- or none, and then the disk failed or memory ran out, as there is room for all
+  pub part-stopped : 0 < batch → (reason : StoreFault) → StoresEvents seen mid new store after (steps batch) (Err reason) →
+      StoresTurn old (seen new) first after (storing_turn first.setting (steps count)) (storing_reply (Err reason))
+  part-stopped some fault.Disk went = record { ok = tt; err = tt; stores = stopped true fault.Disk went went.reported }
+  part-stopped some fault.Memory went = record { ok = tt; err = tt; stores = stopped false fault.Memory went went.reported }
+  part-stopped some fault.Full went =
+      let fits : fit_behind store.setting.state.version store.setting.end batch 2 ≡ true =
+      subst (λ (z : Seen). fit_behind z.setting.state.version z.setting.end batch 2 ≡ true) (sym was.store_is)
+      (subst (λ (version : Version). fit_behind version (end_behind first.setting.state.version first.setting.end (steps done)) batch 2 ≡ true) (sym (apply_all-version first.setting.state (steps done)))
+      (part-room first.setting.state.version first.setting.end done batch count few some was.room)) in
+      let never : false ≡ true = sym went.ends.0 ∙ steps-have-room store.setting batch ∙ fits in
+      absurd cc
+  part-stopped some (fault.NotStore at) went = absurd went.ends
+  part-stopped some fault.AlreadyStore went = absurd went.ends
 
 -- Index steps that follow a command by themselves.
 
-module _ {D : Type 0} {seen : D → Option (List ℕ)} {image : D → List ℕ → Type 0} {moment : D → ℕ} {image_since : D → ℕ → List ℕ → Type 0} {attached : D → Option (List (List ℕ × Bool))} {faults : D → ℕ} where
-  stores-due : (old new : D) (setting : Setting) (count : ℕ) (due : List Event) (failed : Bool) → have_room setting (steps count) ≡ true → due ≡ steps count →
-      Stores seen image moment image_since attached faults old new setting (all_events (storing_turn setting (steps count) ∷ [])) failed → Stores seen image moment image_since attached faults old new setting due failed
-  stores-due old new setting count due failed room is stores =
-      subst (λ (es : List Event). Stores seen image moment image_since attached faults old new setting es failed) (turn-events setting (steps count) room ∙ sym is) stores
+stores-due : (old new : DiskSeen) (setting : Setting) (count : ℕ) (due : List Event) (failed : Bool) → have_room setting (steps count) ≡ true → due ≡ steps count →
+    Stores old new setting (all_events (storing_turn setting (steps count) ∷ [])) failed → Stores old new setting due failed
+stores-due old new setting count due failed room is stores =
+    subst (λ (es : List Event). Stores old new setting es failed) (turn-events setting (steps count) room ∙ sym is) stores
 
-  -- all that are due were stored; or the disk failed or memory ran out, as there is room for all
-  pub due-stored : {old new : D} {before after : Seen} (count : ℕ) (due : List Event) → have_room before.setting (steps count) ≡ true → due ≡ steps count → (result : Result (Unit {0}) StoreFault) →
-      StoresTurn seen image moment image_since attached faults old new before after (storing_turn before.setting (steps count)) (storing_reply result) → StoresSteps seen image moment image_since attached faults old new before after due result
-  due-stored {old} {new} {before} {after} count due room is (Ok done) went =
-      let turn = storing-turn before.setting (steps count) true room in
-      record {
-        ok = record {
-          setting = went.ok.on.setting ∙ ap (λ (t : Turn). t.after) turn ∙ ap (after_events before.setting) (sym is);
-          intact = went.ok.on.intact;
-          place = went.ok.on.place;
-          stands = went.ok.on.stands;
-        };
-        err = tt;
-        stores = stores-due old new before.setting count due false room is went.stores;
-      }
-  due-stored {old} {new} {before} {after} count due room is (Err fault.Full) went =
-      let never : Refused (Limit Store) ≡ Lines [] = went.ok.reply_is ∙ ap (λ (t : Turn). t.reply) (storing-turn before.setting (steps count) true room) in
-      absurd cc
-  due-stored {old} {new} {before} {after} count due room is (Err fault.Disk) went = record { ok = tt; err = tt; stores = stores-due old new before.setting count due true room is went.stores }
-  due-stored {old} {new} {before} {after} count due room is (Err fault.Memory) went = record { ok = tt; err = tt; stores = stores-due old new before.setting count due false room is went.stores }
-  due-stored {old} {new} {before} {after} count due room is (Err (fault.NotStore at)) went = absurd went.err
-  due-stored {old} {new} {before} {after} count due room is (Err fault.AlreadyStore) went = absurd went.err
+-- all that are due were stored; or the disk failed or memory ran out, as there is room for all
+pub due-stored : {old new : DiskSeen} {before after : Seen} (count : ℕ) (due : List Event) → have_room before.setting (steps count) ≡ true → due ≡ steps count → (result : Result (Unit {0}) StoreFault) →
+    StoresTurn old new before after (storing_turn before.setting (steps count)) (storing_reply result) → StoresSteps old new before after due result
+due-stored {old} {new} {before} {after} count due room is (Ok done) went =
+    let turn = storing-turn before.setting (steps count) true room in
+    record {
+      ok = record {
+        setting = went.ok.on.setting ∙ ap (λ (t : Turn). t.after) turn ∙ ap (after_events before.setting) (sym is);
+        intact = went.ok.on.intact;
+        place = went.ok.on.place;
+        stands = went.ok.on.stands;
+      };
+      err = tt;
+      stores = stores-due old new before.setting count due false room is went.stores;
+    }
+due-stored {old} {new} {before} {after} count due room is (Err fault.Full) went =
+    let never : Refused (Limit Store) ≡ Lines [] = went.ok.reply_is ∙ ap (λ (t : Turn). t.reply) (storing-turn before.setting (steps count) true room) in
+    absurd cc
+due-stored {old} {new} {before} {after} count due room is (Err fault.Disk) went = record { ok = tt; err = tt; stores = stores-due old new before.setting count due true room is went.stores }
+due-stored {old} {new} {before} {after} count due room is (Err fault.Memory) went = record { ok = tt; err = tt; stores = stores-due old new before.setting count due false room is went.stores }
+due-stored {old} {new} {before} {after} count due room is (Err (fault.NotStore at)) went = absurd went.err
+due-stored {old} {new} {before} {after} count due room is (Err fault.AlreadyStore) went = absurd went.err

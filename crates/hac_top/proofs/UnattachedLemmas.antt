@@ -2,8 +2,8 @@
 use Rattle.std.proofs.Common.{◌≡◌, ◌⊎◌, ℕ, ◌≤◌, ◌+◌, Bool, true, false, List, length, Option, None, Some, Ok, Err, refl, sym, ap, subst, ◌∙◌, inl, inr, arith, rules}
 use Rattle.std.specs.Prelude.{⊤, Result, IfOk, IfErr}
 use Rattle.std.specs.Option.{IfSome}
-use Rattle.hac_disk.specs.Images.{IsQuiet, LeavesOnly}
-use Rattle.hac_disk.specs.Contents.{IsSettled}
+use Rattle.hac_disk.specs.Images.{IsQuiet}
+use Rattle.hac_disk.specs.Seen.{DiskSeen, IsLawful}
 use Rattle.hac_model.specs.Run.Play.{Given, Setting}
 use Rattle.hac_model.specs.Script.CommandLine.{Options, Space}
 use Rattle.hac_outside.specs.Causes.{ReportsFault}
@@ -123,24 +123,23 @@ ends-so wanted Memory un = inr (inr (inr refl))
 ends-so wanted other un = absurd un
 
 -- what holds of a run under a premise holds of it under more
-ran-more : (fresh : Bool) (given : Given) (status : Status) (setting : Setting) (script : List ℕ) (before after : Outside) (settled : Type 0) (image : List ℕ → Type 0) (leaves : (List ℕ → Type 0) → Type 0) (less more : Type 0) → (more → less) →
-    Ran fresh given status setting script before after settled image leaves less → Ran fresh given status setting script before after settled image leaves more
-ran-more fresh given status setting script before after settled image leaves less more leads ran = record { played = ran.played; moments = ran.moments; begun = ran.begun; complete = λ none. ran.complete (leads none) }
+ran-more : (fresh : Bool) (given : Given) (status : Status) (setting : Setting) (script : List ℕ) (before after : Outside) (old new : DiskSeen) (less more : Type 0) → (more → less) →
+    Ran fresh given status setting script before after old new less → Ran fresh given status setting script before after old new more
+ran-more fresh given status setting script before after old new less more leads ran = record { played = ran.played; moments = ran.moments; begun = ran.begun; complete = λ none. ran.complete (leads none) }
 
 -- what holds of a run that goes on from a store, once its spaces were attached and given another premise
-pub ran-given : {D : Type 0} (seen : D → Option (List ℕ)) (image : D → List ℕ → Type 0) (moment : D → ℕ) (image_since : D → ℕ → List ℕ → Type 0) (faults : D → ℕ) (old new : D) (spaces mid left : SpacesSeen) → mid.faults ≡ spaces.faults → (asked : Options) (less more : Type 0) → (more → less) →
-    (before after : Outside) (status : Status) (Also : Given → Setting → List ℕ → Type 0) → RunsAnd seen image moment image_since faults old new mid left asked less before after status Also → RunsAnd seen image moment image_since faults old new spaces left asked more before after status Also
-ran-given seen image moment image_since faults old new spaces mid left same asked less more leads before after status Also ran =
+pub ran-given : (old new : DiskSeen) (spaces mid left : SpacesSeen) → mid.faults ≡ spaces.faults → (asked : Options) (less more : Type 0) → (more → less) →
+    (before after : Outside) (status : Status) (Also : Given → Setting → List ℕ → Type 0) → RunsAnd old new mid left asked less before after status Also → RunsAnd old new spaces left asked more before after status Also
+ran-given old new spaces mid left same asked less more leads before after status Also ran =
     told-given asked.fresh asked.tick (λ opening given setting script. says less opening given setting script × Also given setting script) (λ opening given setting script. says more opening given setting script × Also given setting script)
     (λ opening given setting script both.
-    (ran-more asked.fresh given status setting script (once_open opening before) after (IsSettled (seen old) (image old)) (image new) (LeavesOnly moment image_since old new) (less × quiet) (more × quiet) (λ none. (leads none.0, none.1)) both.0, both.1)) spaces mid left same (seen old) before.source.left ran
+    (ran-more asked.fresh given status setting script (once_open opening before) after old new (less × quiet) (more × quiet) (λ none. (leads none.0, none.1)) both.0, both.1)) spaces mid left same old.contents before.source.left ran
   where
     quiet : Type 0
-    quiet = IsFaultless before after (faults old) (faults new)
+    quiet = IsFaultless before after old.faults new.faults
 
     says : Type 0 → ℕ → Given → Setting → List ℕ → Type 0
-    says premise opening given setting script =
-        Ran asked.fresh given status setting script (once_open opening before) after (IsSettled (seen old) (image old)) (image new) (LeavesOnly moment image_since old new) (premise × quiet)
+    says premise opening given setting script = Ran asked.fresh given status setting script (once_open opening before) after old new (premise × quiet)
 
 -- a space that couldn't be attached was counted, and no fault was before it
 pub stopped-later : (files : List Space) (old new : SpacesSeen) (status : Status) → StopsAttaching files old new status → old.faults ≤ new.faults
@@ -151,71 +150,66 @@ stopped-later files old new status stops = by stops.fault stops.cause
     by (attach.BadCatalogue line) cause = omega (arith, cause.0)
     by attach.Memory cause = omega (arith, cause.0)
 
-module _ {D : Type 0} (seen : D → Option (List ℕ)) (image : D → List ℕ → Type 0) (moment : D → ℕ) (image_since : D → ℕ → List ℕ → Type 0) (attached : D → Option (List (List ℕ × Bool))) (faults : D → ℕ)
-    (only_now : (disk : D) (c : List ℕ) → image_since disk (moment disk) c → image disk c) (counts_now : (disk : D) (t : ℕ) (c : List ℕ) → t ≤ moment disk → image disk c → image_since disk t c) where
-  pub untouched : (disk : D) → IsQuiet seen image moment image_since disk disk
-  untouched disk = record { same = refl; images = λ c left. left; later = omega arith; past = λ t c within left. left; keeps = λ t c within left. left }
+pub untouched : (disk : DiskSeen) → IsQuiet disk disk
+untouched disk = record { same = refl; images = λ c left. left; later = omega arith; past = λ t c within left. left; keeps = λ t c within left. left }
 
-  pub unattached-quiet : {I O : Type 0} (status : Status) → IsUnattached status → (fresh : Bool) (disk : D) (input : I) (output : O) (told : Option (List ℕ)) →
-      IfSome told (λ file. IfErr (opening_outcome fresh (held file)) (λ wanted. EndsSo wanted status × IsQuiet seen image moment image_since disk disk × (input ≡ input) × (output ≡ output)))
-  unattached-quiet status un fresh disk input output None = search rules
-  unattached-quiet {I} {O} status un fresh disk input output (Some file) = by (opening_outcome fresh (held file))
-    where
-      by : (outcome : Result Setting Status) → IfErr outcome (λ wanted. EndsSo wanted status × IsQuiet seen image moment image_since disk disk × (input ≡ input) × (output ≡ output))
-      by (Ok setting) = search rules
-      by (Err wanted) = (ends-so wanted status un, untouched disk, refl, refl)
+pub unattached-quiet : {I O : Type 0} (status : Status) → IsUnattached status → (fresh : Bool) (disk : DiskSeen) (input : I) (output : O) (told : Option (List ℕ)) →
+    IfSome told (λ file. IfErr (opening_outcome fresh (held file)) (λ wanted. EndsSo wanted status × IsQuiet disk disk × (input ≡ input) × (output ≡ output)))
+unattached-quiet status un fresh disk input output None = search rules
+unattached-quiet {I} {O} status un fresh disk input output (Some file) = by (opening_outcome fresh (held file))
+  where
+    by : (outcome : Result Setting Status) → IfErr outcome (λ wanted. EndsSo wanted status × IsQuiet disk disk × (input ≡ input) × (output ≡ output))
+    by (Ok setting) = search rules
+    by (Err wanted) = (ends-so wanted status un, untouched disk, refl, refl)
 
-  -- it answers nothing of the script, and a crash leaves what it would have gone on from
-  pub ran-unattached : (premise : Type 0) (status : Status) → IsUnattached status → (premise → is_bad_space status ≡ true → ⊥) → (asked : Options) (disk : D) (before : Outside) (old new : SpacesSeen) → old.faults ≤ new.faults →
-      (Also : Given → Setting → List ℕ → Type 0) → ((given : Given) (setting : Setting) (script : List ℕ) → Also given setting script) → RunsAnd seen image moment image_since faults disk disk old new asked premise before before status Also
-  ran-unattached premise status un good asked disk before old new later Also also = of-file (seen disk) (opens-quiet seen image moment image_since only_now asked.fresh (seen disk) disk disk (untouched disk))
-    where
-      settled : Type 0
-      settled = IsSettled (seen disk) (image disk)
+-- it answers nothing of the script, and a crash leaves what it would have gone on from
+pub ran-unattached : (premise : Type 0) (status : Status) → IsUnattached status → (premise → is_bad_space status ≡ true → ⊥) → (asked : Options) (disk : DiskSeen) → IsLawful disk → (before : Outside) (old new : SpacesSeen) → old.faults ≤ new.faults →
+    (Also : Given → Setting → List ℕ → Type 0) → ((given : Given) (setting : Setting) (script : List ℕ) → Also given setting script) → RunsAnd disk disk old new asked premise before before status Also
+ran-unattached premise status un good asked disk lawful before old new later Also also = of-file disk.contents (opens-quiet asked.fresh disk disk lawful (untouched disk))
+  where
+    faultless : Type 0
+    faultless = premise × IsFaultless before before disk.faults disk.faults
 
-      faultless : Type 0
-      faultless = premise × IsFaultless before before (faults disk) (faults disk)
+    says : ℕ → Setting → List ℕ → Type 0
+    says opens setting script = IfTold old new asked.tick setting script (λ given. Ran asked.fresh given status setting script (once_open opens before) before disk disk faultless × Also given setting script)
 
-      says : ℕ → Setting → List ℕ → Type 0
-      says opens setting script = IfTold old new asked.tick setting script (λ given. Ran asked.fresh given status setting script (once_open opens before) before settled (image disk) (LeavesOnly moment image_since disk disk) faultless × Also given setting script)
+    one : (opens : ℕ) (given : Given) (status : Status) → IsUnattached status → (premise → is_bad_space status ≡ true → ⊥) → (setting : Setting) (script : List ℕ) → Some script ≡ before.source.left →
+        Opening asked.fresh disk disk setting →
+        Ran asked.fresh given status setting script (once_open opens before) before disk disk faultless
+    one opens given (BadSpace which line) un good setting script left_is opening =
+        ran-none asked.fresh asked.tick disk disk lawful (once_open opens before) before.probes given faultless (BadSpace which line) setting script left_is (omega arith) opening (λ done. tt) (λ never. never)
+        (λ none. absurd (good none.0 refl))
+    one opens given Memory un good setting script left_is opening =
+        ran-none asked.fresh asked.tick disk disk lawful (once_open opens before) before.probes given faultless Memory setting script left_is (omega arith) opening (λ done. tt) (λ never. never)
+        (λ _. record { within = λ _. inr refl; past = λ _. inr refl })
+    one opens given other un good setting script left_is opening = absurd un
 
-      one : (opens : ℕ) (given : Given) (status : Status) → IsUnattached status → (premise → is_bad_space status ≡ true → ⊥) → (setting : Setting) (script : List ℕ) → Some script ≡ before.source.left →
-          Opening seen image moment image_since attached faults asked.fresh settled disk disk setting →
-          Ran asked.fresh given status setting script (once_open opens before) before settled (image disk) (LeavesOnly moment image_since disk disk) faultless
-      one opens given (BadSpace which line) un good setting script left_is opening =
-          ran-none seen image moment image_since attached faults counts_now asked.fresh asked.tick settled disk disk (once_open opens before) before.probes given faultless (BadSpace which line) setting script left_is (omega arith) opening (λ done. tt) (λ never. never)
-          (λ none. absurd (good none.0 refl))
-      one opens given Memory un good setting script left_is opening =
-          ran-none seen image moment image_since attached faults counts_now asked.fresh asked.tick settled disk disk (once_open opens before) before.probes given faultless Memory setting script left_is (omega arith) opening (λ done. tt) (λ never. never)
-          (λ _. record { within = λ _. inr refl; past = λ _. inr refl })
-      one opens given other un good setting script left_is opening = absurd un
+    at : (opens : ℕ) (outcome : Result Setting Status) (script : List ℕ) → Some script ≡ before.source.left → IfOk outcome (Opening asked.fresh disk disk) → IfOk outcome (λ setting. says opens setting script)
+    at opens (Err wanted) script left_is opening = search rules
+    at opens (Ok setting) script left_is opening =
+        told-none old new asked.tick setting script (λ given. Ran asked.fresh given status setting script (once_open opens before) before disk disk faultless × Also given setting script) later
+        (λ given. (one opens given status un good setting script left_is opening, also given setting script))
 
-      at : (opens : ℕ) (outcome : Result Setting Status) (script : List ℕ) → Some script ≡ before.source.left → IfOk outcome (Opening seen image moment image_since attached faults asked.fresh settled disk disk) → IfOk outcome (λ setting. says opens setting script)
-      at opens (Err wanted) script left_is opening = search rules
-      at opens (Ok setting) script left_is opening =
-          told-none old new asked.tick setting script (λ given. Ran asked.fresh given status setting script (once_open opens before) before settled (image disk) (LeavesOnly moment image_since disk disk) faultless × Also given setting script) later
-          (λ given. (one opens given status un good setting script left_is opening, also given setting script))
+    of-left : (file : List ℕ) (left : Option (List ℕ)) → left ≡ before.source.left → IfOk (opening_outcome asked.fresh (held file)) (Opening asked.fresh disk disk) →
+        IfSome left (λ script. IfOk (opening_outcome asked.fresh (held file)) (λ setting. says (loading file) setting script))
+    of-left file None left_is opening = search rules
+    of-left file (Some script) left_is opening = at (loading file) (opening_outcome asked.fresh (held file)) script left_is opening
 
-      of-left : (file : List ℕ) (left : Option (List ℕ)) → left ≡ before.source.left → IfOk (opening_outcome asked.fresh (held file)) (Opening seen image moment image_since attached faults asked.fresh settled disk disk) →
-          IfSome left (λ script. IfOk (opening_outcome asked.fresh (held file)) (λ setting. says (loading file) setting script))
-      of-left file None left_is opening = search rules
-      of-left file (Some script) left_is opening = at (loading file) (opening_outcome asked.fresh (held file)) script left_is opening
+    of-file : (file : Option (List ℕ)) → IfSome file (λ f. IfOk (opening_outcome asked.fresh (held f)) (Opening asked.fresh disk disk)) →
+        IfSome file (λ f. IfSome before.source.left (λ script. IfOk (opening_outcome asked.fresh (held f)) (λ setting. says (loading f) setting script)))
+    of-file None opening = search rules
+    of-file (Some f) opening = of-left f before.source.left refl opening
 
-      of-file : (file : Option (List ℕ)) → IfSome file (λ f. IfOk (opening_outcome asked.fresh (held f)) (Opening seen image moment image_since attached faults asked.fresh settled disk disk)) →
-          IfSome file (λ f. IfSome before.source.left (λ script. IfOk (opening_outcome asked.fresh (held f)) (λ setting. says (loading f) setting script)))
-      of-file None opening = search rules
-      of-file (Some f) opening = of-left f before.source.left refl opening
+-- memory ran out before any space was attached
+pub memory-quiet : {I O : Type 0} (asked : Option Options) (disk : DiskSeen) (input : I) (output : O) →
+    IfSome asked (λ asked. IfSome disk.contents (λ file. IfErr (opening_outcome asked.fresh (held file)) (λ wanted. EndsSo wanted Memory × IsQuiet disk disk × (input ≡ input) × (output ≡ output))))
+memory-quiet None disk input output = search rules
+memory-quiet (Some asked) disk input output = unattached-quiet Memory tt asked.fresh disk input output disk.contents
 
-  -- memory ran out before any space was attached
-  pub memory-quiet : {I O : Type 0} (asked : Option Options) (disk : D) (input : I) (output : O) →
-      IfSome asked (λ asked. IfSome (seen disk) (λ file. IfErr (opening_outcome asked.fresh (held file)) (λ wanted. EndsSo wanted Memory × IsQuiet seen image moment image_since disk disk × (input ≡ input) × (output ≡ output))))
-  memory-quiet None disk input output = search rules
-  memory-quiet (Some asked) disk input output = unattached-quiet Memory tt asked.fresh disk input output (seen disk)
-
-  pub memory-ran : (premise : Options → Type 0) (asked : Option Options) (disk : D) (before : Outside) (spaces : SpacesSeen) →
-      IfPlays asked (λ asked. RunsFrom seen image moment image_since faults disk disk spaces spaces asked (premise asked) before before Memory)
-  memory-ran premise None disk before spaces = search rules
-  memory-ran premise (Some asked) disk before spaces = λ _. ran-unattached (premise asked) Memory tt (λ _ never. cc) asked disk before spaces spaces (omega arith) (λ given setting script. ⊤) (λ given setting script. tt)
+pub memory-ran : (premise : Options → Type 0) (asked : Option Options) (disk : DiskSeen) → IsLawful disk → (before : Outside) (spaces : SpacesSeen) →
+    IfPlays asked (λ asked. RunsFrom disk disk spaces spaces asked (premise asked) before before Memory)
+memory-ran premise None disk lawful before spaces = search rules
+memory-ran premise (Some asked) disk lawful before spaces = λ _. ran-unattached (premise asked) Memory tt (λ _ never. cc) asked disk lawful before spaces spaces (omega arith) (λ given setting script. ⊤) (λ given setting script. tt)
 
 pub memory-spaces : (asked : Option Options) (spaces : SpacesSeen) → IfSome asked (λ asked. LeavesSpaces Memory asked.spaces spaces spaces)
 memory-spaces None spaces = search rules

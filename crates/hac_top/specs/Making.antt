@@ -1,6 +1,7 @@
 -- A run that draws its script from a number, and then tells what that left.
 use Rattle.std.specs.Prelude.{◌≡◌, ◌≤◌, ℕ, Bool, false, List, [], ◌∷◌, Option, Some, Result, Ok, Err}
 use Rattle.std.specs.Option.{IfSome}
+use Rattle.hac_disk.specs.Seen.{DiskSeen}
 use Rattle.hac_outside.specs.Causes.{ReportsFault}
 use Rattle.hac_outside.specs.Seen.{SinkSeen}
 use Rattle.hac_model.specs.Run.Play.{Setting, data_lines, left_by, no_answers, play}
@@ -64,15 +65,12 @@ abbrev pub IfMakes : Option Options → (Options → ℕ → Type 0) → Type 0
 IfMakes words P = IfSome words (λ asked. IfSome asked.make (P asked))
 
 -- how the script of a number is played on a store that was opened, by devices of its own
-pub record PlaysMade {D : Type 0} (seen : D → Option (List ℕ)) (image : D → List ℕ → Type 0)
-    (moment : D → ℕ) (image_since : D → ℕ → List ℕ → Type 0)
-    (attached : D → Option (List (List ℕ × Bool))) (faults : D → ℕ) (old new : D)
-    (tick : ℕ) (setting : Setting) (number : ℕ) (spaces left : SpacesSeen) (probes probes_now : ℕ)
+pub record PlaysMade (old new : DiskSeen) (tick : ℕ) (setting : Setting) (number : ℕ) (spaces left : SpacesSeen) (probes probes_now : ℕ)
     (result : Result Bool Status) (kept : Setting) : Type 0 where
   pub own : OwnDevices number probes probes_now
   pub unread : is_read_fault (end_status result) ≡ false
   pub unwritten : is_write_fault (end_status result) ≡ false
-  pub on : PlaysOn seen image moment image_since attached faults old new tick setting own.before own.after spaces left result kept
+  pub on : PlaysOn old new tick setting own.before own.after spaces left result kept
 
 -- what is told of the state that a script left, where it was played to its end
 abbrev pub TellsLeft : Result Bool Status → Result Bool Status → State → SinkSeen → SinkSeen → Type 0
@@ -82,28 +80,23 @@ TellsLeft (Ok refused) (Err status) s before after = StopsWriting status before 
 
 -- How the script of a number is played on a store that was opened, and what is then told. A fault of the sink or of the
 -- disk is reported, and no other.
-pub record MakesStore {D : Type 0} (seen : D → Option (List ℕ)) (image : D → List ℕ → Type 0)
-    (moment : D → ℕ) (image_since : D → ℕ → List ℕ → Type 0)
-    (attached : D → Option (List (List ℕ × Bool))) (faults : D → ℕ) (old new : D)
-    (tick : ℕ) (setting : Setting) (number : ℕ) (before after : SinkSeen) (spaces left : SpacesSeen)
+pub record MakesStore (old new : DiskSeen) (tick : ℕ) (setting : Setting) (number : ℕ) (before after : SinkSeen) (spaces left : SpacesSeen)
     (probes probes_now : ℕ) (status : Status) : Type 0 where
   pub played : Status
   pub own : OwnDevices number probes probes_now
-  pub plays : PlaysStore seen image moment image_since attached faults old new tick setting own.before own.after spaces left played
+  pub plays : PlaysStore old new tick setting own.before own.after spaces left played
   pub tells : IfSome spaces.contents (λ contents.
       Tells played status (left_by setting (play (given_by contents plays.met tick) setting (generated number))).state before after)
   pub opened : IsOpenStatus status
-  pub reported : ReportsFault (is_disk_fault status) (faults old) (faults new)
+  pub reported : ReportsFault (is_disk_fault status) old.faults new.faults
   pub unread : is_read_fault status ≡ false
   pub wrote : ReportsFault (is_write_fault status) before.faults after.faults
   pub passed : (status ≡ WriteFault → ⊥) → before.held_back ≡ 0 → after.held_back ≡ 0
 
 -- What is said of a run whose script is drawn, which its own devices were for `own` to `own_after`, and so ended: it runs
 -- on them as any run does, and then it tells what the script left, with this status.
-abbrev pub RunsMade : {D : Type 0} (seen : D → Option (List ℕ)) (image : D → List ℕ → Type 0)
-    (moment : D → ℕ) (image_since : D → ℕ → List ℕ → Type 0) (faults : D → ℕ) (old new : D)
-    (spaces left : SpacesSeen) (asked : Options) (premise : Type 0) (status : Status) (before after : SinkSeen)
+abbrev pub RunsMade : (old new : DiskSeen) (spaces left : SpacesSeen) (asked : Options) (premise : Type 0) (status : Status) (before after : SinkSeen)
     (played : Status) (own own_after : Outside) → Type 0
-RunsMade seen image moment image_since faults old new spaces left asked premise status before after played own own_after =
-    RunsAnd seen image moment image_since faults old new spaces left asked premise own own_after played
+RunsMade old new spaces left asked premise status before after played own own_after =
+    RunsAnd old new spaces left asked premise own own_after played
     (λ given setting script. Tells played status (left_by setting (play given setting script)).state before after)

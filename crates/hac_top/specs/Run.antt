@@ -5,8 +5,8 @@ use Rattle.std.specs.Io.KnownBytes.{Appends}
 use Rattle.hac_outside.specs.Causes.{Rose, ReportsFault}
 use Rattle.hac_outside.specs.Known.{Known}
 use Rattle.hac_outside.specs.Seen.{SourceSeen, SinkSeen}
-use Rattle.hac_disk.specs.Contents.{IsSettled}
-use Rattle.hac_disk.specs.Images.{LeavesOnly}
+use Rattle.hac_disk.specs.Images.{IsSettled, LeavesOnly}
+use Rattle.hac_disk.specs.Seen.{DiskSeen}
 use Rattle.hac_model.specs.Script.CommandLine.{Options}
 use Rattle.hac_model.specs.Run.Costs.{lines_cost}
 use Rattle.hac_model.specs.Run.Play.{AreAskable, Given, Setting, Turn, all_events, given_behind, has_refusal, left_by, play, stored_setting, turns}
@@ -163,30 +163,25 @@ IsTreeOf given setting script now = IsTreeAfter (stored setting.state) (all_even
 -- How the script is played from a store that was opened, whatever source, disk and spaces tell. A crash at each moment
 -- leaves the tree after some of the events. A call of the disk that failed is reported, and no other. The spaces met
 -- these faults as they were asked.
-pub record PlaysStore {D : Type 0} (seen : D → Option (List ℕ)) (image : D → List ℕ → Type 0)
-    (moment : D → ℕ) (image_since : D → ℕ → List ℕ → Type 0)
-    (attached : D → Option (List (List ℕ × Bool))) (faults : D → ℕ) (old new : D)
-    (tick : ℕ) (setting : Setting) (before after : Outside) (spaces left : SpacesSeen) (status : Status) : Type 0 where
+pub record PlaysStore (old new : DiskSeen) (tick : ℕ) (setting : Setting) (before after : Outside)
+    (spaces left : SpacesSeen) (status : Status) : Type 0 where
   pub opened : IsOpenStatus status
   pub met : List (Option (List ℕ))
   pub asked : HaveAsked spaces left met
   pub askable : IfSome spaces.contents (λ contents. IfSome before.source.left (λ bytes.
       AreAskable (given_by contents met tick) setting (script bytes)))
   pub played : IfSome spaces.contents (λ contents. IfSome before.source.left (λ bytes.
-      Played false (given_by contents met tick) status setting bytes before after (Stands (seen old) (image old) setting) (image new)))
-  pub moments : IfSome spaces.contents (λ contents. IfSome before.source.left (λ bytes. Stands (seen old) (image old) setting →
-      LeavesOnly moment image_since old new (Holds (IsTreeOf (given_by contents met tick) setting bytes))))
+      Played false (given_by contents met tick) status setting bytes before after (Stands old setting) new.image))
+  pub moments : IfSome spaces.contents (λ contents. IfSome before.source.left (λ bytes. Stands old setting →
+      LeavesOnly old new (Holds (IsTreeOf (given_by contents met tick) setting bytes))))
   pub ends : Ends status before after
-  pub names : attached new ≡ attached old
-  pub reported : ReportsFault (is_disk_fault status) (faults old) (faults new)
+  pub names : new.attached ≡ old.attached
+  pub reported : ReportsFault (is_disk_fault status) old.faults new.faults
 
 -- The same of the player that plays it: it has gone on to what the script left, unless it stopped before its end.
-pub record PlaysOn {D : Type 0} (seen : D → Option (List ℕ)) (image : D → List ℕ → Type 0)
-    (moment : D → ℕ) (image_since : D → ℕ → List ℕ → Type 0)
-    (attached : D → Option (List (List ℕ × Bool))) (faults : D → ℕ) (old new : D)
-    (tick : ℕ) (setting : Setting) (before after : Outside) (spaces left : SpacesSeen)
-    (result : Result Bool Status) (kept : Setting) : Type 0 where
-  pub plays : PlaysStore seen image moment image_since attached faults old new tick setting before after spaces left (end_status result)
+pub record PlaysOn (old new : DiskSeen) (tick : ℕ) (setting : Setting) (before after : Outside)
+    (spaces left : SpacesSeen) (result : Result Bool Status) (kept : Setting) : Type 0 where
+  pub plays : PlaysStore old new tick setting before after spaces left (end_status result)
   pub leaves : OnOk result (IfSome spaces.contents (λ contents. IfSome before.source.left (λ bytes.
       kept ≡ left_by setting (play (given_by contents plays.met tick) setting bytes))))
   pub stops : IfErr result (λ status. IsFinished status → ⊥)
@@ -195,12 +190,10 @@ pub record PlaysOn {D : Type 0} (seen : D → Option (List ℕ)) (image : D → 
 -- moment leaves that tree after some of the events of the script; once it has begun to take the script, a crash leaves
 -- a store. Without a fault the script is played, unless memory runs out.
 pub record Ran (fresh : Bool) (given : Given) (status : Status) (setting : Setting) (script : List ℕ)
-    (before after : Outside)
-    (settled : Type 0) (image : List ℕ → Type 0) (leaves : (List ℕ → Type 0) → Type 0)
-    (faultless : Type 0) : Type 0 where
-  pub played : Played fresh given status setting script before after settled image
-  pub moments : settled → leaves (Reopens fresh (IsTreeOf given setting script))
-  pub begun : settled → HasBegun status before after → (c : List ℕ) → image c →
+    (before after : Outside) (old new : DiskSeen) (faultless : Type 0) : Type 0 where
+  pub played : Played fresh given status setting script before after (IsSettled old) new.image
+  pub moments : IsSettled old → LeavesOnly old new (Reopens fresh (IsTreeOf given setting script))
+  pub begun : IsSettled old → HasBegun status before after → (c : List ℕ) → new.image c →
       Holds (IsTreeOf given setting script) c
   pub complete : faultless → Completes status script
 
@@ -225,23 +218,19 @@ IsFaultless before after was now =
 -- source and the spaces tell what they hold, and the file holds a store, or none and a new one is asked for, the script
 -- was played from there as `Ran` says, given the spaces and the faults that its commands met; and of these it says `Also`.
 -- The script is played without a fault if moreover the premise holds.
-abbrev pub RunsAnd : {D : Type 0} (seen : D → Option (List ℕ)) (image : D → List ℕ → Type 0)
-    (moment : D → ℕ) (image_since : D → ℕ → List ℕ → Type 0) (faults : D → ℕ) (old new : D)
-    (spaces left : SpacesSeen) (asked : Options) (premise : Type 0) (before after : Outside) (status : Status)
-    (Also : Given → Setting → List ℕ → Type 0) → Type 0
-RunsAnd seen image moment image_since faults old new spaces left asked premise before after status Also =
-    IfOpened asked (seen old) before.source.left (λ opening setting script.
+abbrev pub RunsAnd : (old new : DiskSeen) (spaces left : SpacesSeen) (asked : Options) (premise : Type 0)
+    (before after : Outside) (status : Status) (Also : Given → Setting → List ℕ → Type 0) → Type 0
+RunsAnd old new spaces left asked premise before after status Also =
+    IfOpened asked old.contents before.source.left (λ opening setting script.
     IfTold spaces left asked.tick setting script (λ given.
-    Ran asked.fresh given status setting script (once_open opening before) after (IsSettled (seen old) (image old)) (image new)
-    (LeavesOnly moment image_since old new) (premise × IsFaultless before after (faults old) (faults new))
+    Ran asked.fresh given status setting script (once_open opening before) after old new
+    (premise × IsFaultless before after old.faults new.faults)
     × Also given setting script))
 
 -- the same, and nothing else
-abbrev pub RunsFrom : {D : Type 0} (seen : D → Option (List ℕ)) (image : D → List ℕ → Type 0)
-    (moment : D → ℕ) (image_since : D → ℕ → List ℕ → Type 0) (faults : D → ℕ) (old new : D)
-    (spaces left : SpacesSeen) (asked : Options) (premise : Type 0) (before after : Outside) (status : Status) → Type 0
-RunsFrom seen image moment image_since faults old new spaces left asked premise before after status =
-    RunsAnd seen image moment image_since faults old new spaces left asked premise before after status (λ given setting script. ⊤)
+abbrev pub RunsFrom : (old new : DiskSeen) (spaces left : SpacesSeen) (asked : Options) (premise : Type 0) (before after : Outside) (status : Status) → Type 0
+RunsFrom old new spaces left asked premise before after status =
+    RunsAnd old new spaces left asked premise before after status (λ given setting script. ⊤)
 
 -- the words, if they are known, where no script is to be drawn
 abbrev pub IfPlays : Option Options → (Options → Type 0) → Type 0

@@ -53,9 +53,9 @@ impl Player {
     ) -> Result<(), Status>
         requires { IsUsable (D.seen disk.old) self.old.store }
         ensures tick { self.new.tick ≡ self.old.tick }
-        ensures answers { AnswersItems D.seen D.image D.moment D.image_since D.attached D.faults
-            disk.old disk.new (P.seen spaces.old) (P.seen spaces.new) self.old.tick
-            self.old.store self.new.store (K.seen output.old) (K.seen output.new)
+        ensures answers { AnswersItems (D.seen disk.old) (D.seen disk.new)
+            (P.seen spaces.old) (P.seen spaces.new) self.old.tick self.old.store self.new.store
+            (K.seen output.old) (K.seen output.new)
             (items_of_taken line) self.old.refused self.new.refused probes.old probes.new result }
     {
         let TakenLine { piece, taken } = line;
@@ -83,9 +83,9 @@ impl Player {
     ) -> Result<(), Status>
         requires { IsUsable (D.seen disk.old) self.old.store }
         ensures tick { self.new.tick ≡ self.old.tick }
-        ensures answers { AnswersItems D.seen D.image D.moment D.image_since D.attached D.faults
-            disk.old disk.new (P.seen spaces.old) (P.seen spaces.new) self.old.tick
-            self.old.store self.new.store (K.seen output.old) (K.seen output.new)
+        ensures answers { AnswersItems (D.seen disk.old) (D.seen disk.new)
+            (P.seen spaces.old) (P.seen spaces.new) self.old.tick self.old.store self.new.store
+            (K.seen output.old) (K.seen output.new)
             (item_taken line taken ∷ []) self.old.refused self.new.refused
             probes.old probes.new result }
     {
@@ -112,13 +112,11 @@ impl Player {
         requires { IsUsable (D.seen disk.old) self.old.store }
         ensures tick { self.new.tick ≡ self.old.tick }
         ensures refused { OnOk result (self.new.refused ≡ (self.old.refused || is_refused reply)) }
-        ensures ok { OnOk result (AnswersLine D.seen D.image D.moment D.image_since D.attached
-            D.faults disk.old disk.new self.old.store self.new.store
-            (K.seen output.old) (K.seen output.new)
+        ensures ok { OnOk result (AnswersLine (D.seen disk.old) (D.seen disk.new)
+            self.old.store self.new.store (K.seen output.old) (K.seen output.new)
             (told_turn self.old.tick self.old.store.setting reply ∷ [])) }
-        ensures err { IfErr result (StopsAnswer D.seen D.image D.moment D.image_since D.attached
-            D.faults disk.old disk.new self.old.store.setting
-            (K.seen output.old) (K.seen output.new)
+        ensures err { IfErr result (StopsAnswer (D.seen disk.old) (D.seen disk.new)
+            self.old.store.setting (K.seen output.old) (K.seen output.new)
             (told_turn self.old.tick self.old.store.setting reply ∷ [])) }
         ensures probes { probes.new ≤ probes.old + costs self.old.store.setting.state
             (steps_behind self.old.tick self.old.store.setting) }

@@ -1,6 +1,7 @@
 //! Making: a script that is drawn from a number is played, and then what it left is told.
 ghost use Rattle.std.specs.Prelude.{◌≡◌, ◌≤◌, false, IfOk, codes};
 ghost use Rattle.hac_model.specs.Run.Given.{no_answers};
+ghost use Rattle.hac_model.specs.Tree.Valid.{IsValid};
 ghost use Rattle.hac_model.specs.declared.commands.Command.TheVariants as command;
 ghost use Rattle.hac_model.specs.declared.replies.Deny.TheVariants as denied;
 ghost use Rattle.hac_top.specs.Making.{MakesStore, PlaysMade, TellsLeft, counts_reply};
@@ -30,9 +31,9 @@ pub fn make_store<K: Sink, D: Disk, P: Spaces, L: Ledger>(
 ) -> Status
     requires begun { player.refused ≡ false }
     requires usable { IsUsable (D.seen disk.old) player.store }
-    ensures { MakesStore D.seen D.image D.moment D.image_since D.attached D.faults disk.old disk.new
-        player.tick player.store.setting number (K.seen output.old) (K.seen output.new) (P.seen spaces.old)
-        (P.seen spaces.new) probes.old probes.new result }
+    ensures { MakesStore (D.seen disk.old) (D.seen disk.new) player.tick player.store.setting number
+        (K.seen output.old) (K.seen output.new) (P.seen spaces.old) (P.seen spaces.new)
+        probes.old probes.new result }
 {
     let played = play_made(&mut player, number, disk, spaces, probes);
     let told = tell_counts(&mut player, output, played, probes);
@@ -50,9 +51,9 @@ fn play_made<D: Disk, P: Spaces, L: Ledger>(
 ) -> Result<bool, Status>
     requires begun { player.old.refused ≡ false }
     requires usable { IsUsable (D.seen disk.old) player.old.store }
-    ensures { PlaysMade D.seen D.image D.moment D.image_since D.attached D.faults disk.old disk.new
-        player.old.tick player.old.store.setting number (P.seen spaces.old) (P.seen spaces.new)
-        probes.old probes.new result player.new.store.setting }
+    ensures { PlaysMade (D.seen disk.old) (D.seen disk.new) player.old.tick player.old.store.setting
+        number (P.seen spaces.old) (P.seen spaces.new) probes.old probes.new
+        result player.new.store.setting }
 {
     let mut source = ScriptSource::new(make_script(player.alloc, number)?);
     let mut sink = Unwritten;
@@ -76,16 +77,16 @@ fn tell_counts<K: Sink, L: Ledger>(
     Ok(refused)
 }
 
-// The reply to `counts`. No state refuses it.
+// The reply to `counts`, which no valid state refuses.
 fn counts_reply<L: Ledger>(
     alloc: Global,
     machine: &Machine,
     probes: &mut Steps<L>,
 ) -> Result<Reply, Memory>
+    requires { IsValid machine.now.state }
     ensures reply { IfOk result (λ reply. reply ≡ counts_reply machine.now.state) }
     ensures probes { probes.new ≤ probes.old }
 {
-    let _dirty = machine.dirty();
     match machine.check(counts_line(alloc)?) {
         Ok(draft) => match machine.ask(draft, no_answers(alloc), probes) {
             Ok(reply) => Ok(reply),

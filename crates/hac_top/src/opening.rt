@@ -1,8 +1,7 @@
 //! Opening: the file of the store is attached, and the store that it holds is loaded, or a new one
 //! is made.
 ghost use Rattle.std.specs.Prelude.{◌≡◌, ◌+◌, ◌≤◌, Err, IfOk, IfErr, IfSome};
-ghost use Rattle.hac_disk.specs.Images.{IsQuiet, LeavesOnly};
-ghost use Rattle.hac_disk.specs.Contents.{IsSettled};
+ghost use Rattle.hac_disk.specs.Images.{IsQuiet, IsSettled, LeavesOnly};
 ghost use Rattle.hac_outside.specs.Causes.{ReportsFault};
 ghost use Rattle.hac_model.specs.Tree.Sessions.{stored};
 ghost use Rattle.hac_store.specs.Held.{held};
@@ -30,31 +29,32 @@ pub fn open_store<D: Disk, L: Ledger>(
     disk: &mut D,
     probes: &mut Steps<L>,
 ) -> Result<Store, Status>
-    ensures opened { IfSome (D.seen disk.old) (λ file. IsOpened result
+    ensures opened { IfSome (D.seen disk.old).contents (λ file. IsOpened result
         (opening_outcome options.now.fresh (held file))) }
     ensures usable { IfOk result (IsUsable (D.seen disk.new)) }
-    ensures stands { IfSome (D.seen disk.old) (λ _. IfOk result
-        (λ store. Stands (D.seen disk.new) (D.image disk.new) store.setting)) }
+    ensures stands { IfSome (D.seen disk.old).contents (λ _. IfOk result
+        (λ store. Stands (D.seen disk.new) store.setting)) }
     ensures stops { IfErr result StopsOpening }
-    ensures probes { IfSome (D.seen disk.old) (λ file. probes.new ≤ probes.old + loading file) }
+    ensures probes { IfSome (D.seen disk.old).contents
+        (λ file. probes.new ≤ probes.old + loading file) }
 
     // At each moment a crash leaves the store as it was, or the root alone, or no store yet.
-    ensures any_moment { IfSome (D.seen disk.old) (λ file. IfOk
-        (opening_outcome options.now.fresh (held file))
-        (λ setting. IsSettled (D.seen disk.old) (D.image disk.old) →
-        LeavesOnly D.moment D.image_since disk.old disk.new
+    ensures any_moment { IfSome (D.seen disk.old).contents (λ file. IfOk
+        (opening_outcome options.now.fresh (held file)) (λ setting. IsSettled (D.seen disk.old) →
+        LeavesOnly (D.seen disk.old) (D.seen disk.new)
         (Reopens options.now.fresh (λ s. s ≡ stored setting.state)))) }
 
     // Where the file holds no store, or one that is in the way, nothing is written.
-    ensures quiet { IfSome (D.seen disk.old) (λ file. IfErr
+    ensures quiet { IfSome (D.seen disk.old).contents (λ file. IfErr
         (opening_outcome options.now.fresh (held file))
-        (λ _. IsQuiet D.seen D.image D.moment D.image_since disk.old disk.new)) }
+        (λ _. IsQuiet (D.seen disk.old) (D.seen disk.new))) }
 
-    ensures attached { MayAttach (D.attached disk.old) (asked_of options.now)
-        (D.attached disk.new) }
+    ensures attached { MayAttach (D.seen disk.old).attached (asked_of options.now)
+        (D.seen disk.new).attached }
     ensures attaches { (result ≡ Err Status.DiskFault → ⊥) →
-        AttachesStore (D.attached disk.old) (asked_of options.now) (D.attached disk.new) }
-    ensures faults { ReportsFault (reports_disk result) (D.faults disk.old) (D.faults disk.new) }
+        AttachesStore (D.seen disk.old).attached (asked_of options.now) (D.seen disk.new).attached }
+    ensures faults { ReportsFault (reports_disk result) (D.seen disk.old).faults
+        (D.seen disk.new).faults }
 {
     if disk.attach(options.store, options.fresh).is_err() {
         return Err(Status::DiskFault);

@@ -25,10 +25,10 @@ pub fn play_store<S: Source, K: Sink, D: Disk, P: Spaces, L: Ledger>(
     requires source { (S.seen input.old).ended ≡ false }
     requires begun { player.refused ≡ false }
     requires usable { IsUsable (D.seen disk.old) player.store }
-    ensures { PlaysStore D.seen D.image D.moment D.image_since D.attached D.faults disk.old disk.new
-        player.tick player.store.setting (outside (S.seen input.old) (K.seen output.old) probes.old)
-        (outside (S.seen input.new) (K.seen output.new) probes.new) (P.seen spaces.old)
-        (P.seen spaces.new) result }
+    ensures { PlaysStore (D.seen disk.old) (D.seen disk.new) player.tick player.store.setting
+        (outside (S.seen input.old) (K.seen output.old) probes.old)
+        (outside (S.seen input.new) (K.seen output.new) probes.new)
+        (P.seen spaces.old) (P.seen spaces.new) result }
 {
     let played = play_script(&mut player, input, output, disk, spaces, probes);
     drop(player);
@@ -47,11 +47,10 @@ pub fn play_script<S: Source, K: Sink, D: Disk, P: Spaces, L: Ledger>(
     requires source { (S.seen input.old).ended ≡ false }
     requires begun { player.old.refused ≡ false }
     requires usable { IsUsable (D.seen disk.old) player.old.store }
-    ensures { PlaysOn D.seen D.image D.moment D.image_since D.attached D.faults disk.old disk.new
-        player.old.tick player.old.store.setting
+    ensures { PlaysOn (D.seen disk.old) (D.seen disk.new) player.old.tick player.old.store.setting
         (outside (S.seen input.old) (K.seen output.old) probes.old)
-        (outside (S.seen input.new) (K.seen output.new) probes.new) (P.seen spaces.old)
-        (P.seen spaces.new) result player.new.store.setting }
+        (outside (S.seen input.new) (K.seen output.new) probes.new)
+        (P.seen spaces.old) (P.seen spaces.new) result player.new.store.setting }
 {
     let mut reader = Reader::new(player.alloc)?;
     'lines: loop {

@@ -1,6 +1,7 @@
 //! The run: the spaces are attached, the store is opened, and the script that is read, or one that
 //! is drawn, is played on it.
-ghost use Rattle.std.specs.Prelude.{◌≡◌, ◌≤◌, ◌+◌, ◌⊎◌, ⊤, [], true, false, IfErr, IfSome, None, Some, map};
+ghost use Rattle.std.specs.Prelude.{◌≡◌, ◌≤◌, ◌+◌, ◌⊎◌, ⊤, [], true, false, IfErr, IfSome};
+ghost use Rattle.std.specs.Prelude.{None, Some, map};
 ghost use Rattle.std.specs.Prelude.{string_bytes};
 ghost use Rattle.std.specs.Io.KnownBytes.{Appends};
 ghost use Rattle.hac_disk.specs.Images.{IsQuiet};
@@ -81,8 +82,7 @@ pub fn run<S: Source, K: Sink, D: Disk, P: Spaces, L: Ledger>(
     // events, at the end those of what was answered, and without a fault the script is played. No
     // more terms are asked of items than opening the store may take, and each line since.
     ensures ran { IfPlays (options (map string_bytes words.now)) (λ asked. RunsFrom
-        D.seen D.image D.moment D.image_since D.faults disk.old disk.new
-        (P.seen spaces.old) (P.seen spaces.new) asked
+        (D.seen disk.old) (D.seen disk.new) (P.seen spaces.old) (P.seen spaces.new) asked
         (CanAttach asked.spaces (P.seen spaces.old) (P.seen spaces.new))
         (outside (S.seen input.old) (K.seen output.old) probes.old)
         (outside (S.seen input.new) (K.seen output.new) probes.new) result) }
@@ -92,34 +92,34 @@ pub fn run<S: Source, K: Sink, D: Disk, P: Spaces, L: Ledger>(
     ensures made { IfMakes (options (map string_bytes words.now)) (λ asked number. Makes number
         (outside (S.seen input.old) (K.seen output.old) probes.old)
         (outside (S.seen input.new) (K.seen output.new) probes.new)
-        (RunsMade D.seen D.image D.moment D.image_since D.faults disk.old disk.new
-        (P.seen spaces.old) (P.seen spaces.new) asked
+        (RunsMade (D.seen disk.old) (D.seen disk.new) (P.seen spaces.old) (P.seen spaces.new) asked
         (CanAttach asked.spaces (P.seen spaces.old) (P.seen spaces.new))
         result (K.seen output.old) (K.seen output.new))) }
 
     // Where the file holds no store, or one though a new one was asked for, it says so and does
     // nothing else.
     ensures unopened { IfSome (options (map string_bytes words.now))
-        (λ asked. IfSome (D.seen disk.old) (λ file. IfErr (opening_outcome asked.fresh (held file))
-        (λ wanted.
-        EndsSo wanted result × IsQuiet D.seen D.image D.moment D.image_since disk.old disk.new ×
+        (λ asked. IfSome (D.seen disk.old).contents (λ file. IfErr
+        (opening_outcome asked.fresh (held file)) (λ wanted.
+        EndsSo wanted result × IsQuiet (D.seen disk.old) (D.seen disk.new) ×
         (input.new ≡ input.old) × (output.new ≡ output.old)))) }
     ensures unopened_asks { IfSome (options (map string_bytes words.now))
-        (λ asked. IfUnopened asked.fresh (D.seen disk.old)
+        (λ asked. IfUnopened asked.fresh (D.seen disk.old).contents
         (λ opening. probes.new ≤ probes.old + opening)) }
     ensures file { IfSome (options (map string_bytes words.now))
-        (λ asked. IfSome (D.seen disk.old) (λ file. IsOfFile result → opening_outcome asked.fresh
-        (held file) ≡ Err result)) }
+        (λ asked. IfSome (D.seen disk.old).contents (λ file. IsOfFile result →
+        opening_outcome asked.fresh (held file) ≡ Err result)) }
 
     // The disk is attached once, by the name that the words give, unless the run ends before.
     ensures attached { IfSome (options (map string_bytes words.now))
-        (λ asked. LeavesAttached result (D.attached disk.old) asked (D.attached disk.new)) }
+        (λ asked. LeavesAttached result (D.seen disk.old).attached asked
+        (D.seen disk.new).attached) }
 
     // Each fault is reported, and nothing is left unflushed in the sink.
     ensures ends { Ends result (outside (S.seen input.old) (K.seen output.old) probes.old)
         (outside (S.seen input.new) (K.seen output.new) probes.new) }
-    ensures disk_faults { ReportsFault (is_disk_fault result) (D.faults disk.old)
-        (D.faults disk.new) }
+    ensures disk_faults { ReportsFault (is_disk_fault result) (D.seen disk.old).faults
+        (D.seen disk.new).faults }
 {
     let options = match read_words(alloc, words) {
         Ok(options) => options,
@@ -145,32 +145,30 @@ fn run_store<S: Source, K: Sink, D: Disk, P: Spaces, L: Ledger>(
     requires { (S.seen input.old).ended ≡ false }
     ensures own { IsStoreStatus result }
     ensures ran { IfPlays (Some (asked_of options.now)) (λ asked. RunsFrom
-        D.seen D.image D.moment D.image_since D.faults disk.old disk.new
-        (P.seen spaces.old) (P.seen spaces.new) asked ⊤
+        (D.seen disk.old) (D.seen disk.new) (P.seen spaces.old) (P.seen spaces.new) asked ⊤
         (outside (S.seen input.old) (K.seen output.old) probes.old)
         (outside (S.seen input.new) (K.seen output.new) probes.new) result) }
     ensures made { IfMakes (Some (asked_of options.now)) (λ asked number. Makes number
         (outside (S.seen input.old) (K.seen output.old) probes.old)
         (outside (S.seen input.new) (K.seen output.new) probes.new)
-        (RunsMade D.seen D.image D.moment D.image_since D.faults disk.old disk.new
-        (P.seen spaces.old) (P.seen spaces.new) asked ⊤
-        result (K.seen output.old) (K.seen output.new))) }
+        (RunsMade (D.seen disk.old) (D.seen disk.new) (P.seen spaces.old) (P.seen spaces.new)
+        asked ⊤ result (K.seen output.old) (K.seen output.new))) }
     ensures spaces { StayAttached (P.seen spaces.old) (P.seen spaces.new) }
-    ensures unopened { IfSome (D.seen disk.old) (λ file. IfErr
+    ensures unopened { IfSome (D.seen disk.old).contents (λ file. IfErr
         (opening_outcome options.now.fresh (held file))
         (λ wanted.
-        EndsSo wanted result × IsQuiet D.seen D.image D.moment D.image_since disk.old disk.new ×
+        EndsSo wanted result × IsQuiet (D.seen disk.old) (D.seen disk.new) ×
         (input.new ≡ input.old) × (output.new ≡ output.old))) }
-    ensures unopened_asks { IfUnopened options.now.fresh (D.seen disk.old)
+    ensures unopened_asks { IfUnopened options.now.fresh (D.seen disk.old).contents
         (λ opening. probes.new ≤ probes.old + opening) }
-    ensures file { IfSome (D.seen disk.old) (λ file. IsOfFile result → opening_outcome
+    ensures file { IfSome (D.seen disk.old).contents (λ file. IsOfFile result → opening_outcome
         options.now.fresh (held file) ≡ Err result) }
-    ensures attached { LeavesAttached result (D.attached disk.old) (asked_of options.now)
-        (D.attached disk.new) }
+    ensures attached { LeavesAttached result (D.seen disk.old).attached (asked_of options.now)
+        (D.seen disk.new).attached }
     ensures ends { Ends result (outside (S.seen input.old) (K.seen output.old) probes.old)
         (outside (S.seen input.new) (K.seen output.new) probes.new) }
-    ensures disk_faults { ReportsFault (is_disk_fault result) (D.faults disk.old)
-        (D.faults disk.new) }
+    ensures disk_faults { ReportsFault (is_disk_fault result) (D.seen disk.old).faults
+        (D.seen disk.new).faults }
 {
     match open_store(alloc, options, disk, probes) {
         Ok(store) => {

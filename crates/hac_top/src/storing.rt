@@ -35,7 +35,7 @@ pub fn store_line<D: Disk, P: Spaces, L: Ledger>(
     probes: &mut Steps<L>,
 ) -> Result<Reply, Status>
     requires { IsUsable (D.seen disk.old) store.old }
-    ensures { StoresItem D.seen D.image D.moment D.image_since D.attached D.faults disk.old disk.new
+    ensures { StoresItem (D.seen disk.old) (D.seen disk.new)
         (P.seen spaces.old) (P.seen spaces.new) store.old store.new (item_taken line taken)
         probes.old probes.new result }
 {
@@ -69,9 +69,8 @@ fn store_events<D: Disk, L: Ledger>(
 ) -> Result<(), StoreFault>
     requires usable { IsUsable (D.seen disk.old) store.old }
     requires can { CanSettle store.old.setting.state settled }
-    ensures stores { StoresTurn D.seen D.image D.moment D.image_since D.attached D.faults disk.old
-        disk.new store.old store.new (settled_turn store.old.setting settled)
-        (storing_reply result) }
+    ensures stores { StoresTurn (D.seen disk.old) (D.seen disk.new) store.old store.new
+        (settled_turn store.old.setting settled) (storing_reply result) }
     ensures probes { probes.new ≤ probes.old + costs store.old.setting.state
         (settled_turn store.old.setting settled).events }
 {
@@ -93,8 +92,7 @@ pub fn store_steps<D: Disk, L: Ledger>(
 ) -> Result<(), StoreFault>
     requires usable { IsUsable (D.seen disk.old) store.old }
     requires happen { AllHappen store.old.setting.state (replicate count event.Step) }
-    ensures stores { StoresTurn D.seen D.image D.moment D.image_since D.attached D.faults disk.old
-        disk.new store.old store.new
+    ensures stores { StoresTurn (D.seen disk.old) (D.seen disk.new) store.old store.new
         (storing_turn store.old.setting (replicate count event.Step)) (storing_reply result) }
     ensures probes { probes.new ≤ probes.old
         + storing_cost store.old.setting (replicate count event.Step) }

@@ -22,8 +22,8 @@ pub fn tick<D: Disk, L: Ledger>(
     probes: &mut Steps<L>,
 ) -> Result<(), StoreFault>
     requires { IsUsable (D.seen disk.old) store.old }
-    ensures stores { StoresSteps D.seen D.image D.moment D.image_since D.attached D.faults disk.old
-        disk.new store.old store.new (steps_behind most store.old.setting) result }
+    ensures stores { StoresSteps (D.seen disk.old) (D.seen disk.new) store.old store.new
+        (steps_behind most store.old.setting) result }
     ensures probes { probes.new ≤ probes.old + costs store.old.setting.state
         (steps_behind most store.old.setting) }
 {

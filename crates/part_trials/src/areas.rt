@@ -55,7 +55,7 @@ fn expect_bytes(rt: &impl Abort, disk: &mut FileDisk<'_>, at: u64, want: &[u8; 1
 
 /// The one root counts up to the second half of the flip, and the other from then on.
 fn expect_flip<D: Disk>(rt: &impl Abort, disk: &mut D, live: Root, next: Root)
-    requires head { RangeWithin (D.seen disk.old) 0 64 }
+    requires head { RangeWithin (D.seen disk.old).contents 0 64 }
     requires generation { live.generation < 2 ^ 64 - 1 }
 {
     assert_eq!(rt; close_and_fill(disk, live, next.start), Ok(()));

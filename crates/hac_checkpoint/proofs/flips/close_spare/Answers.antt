@@ -9,37 +9,37 @@ use Rattle.hac_checkpoint.proofs.flips.close_spare.Goals as goal
 
 pub returns-clause-closed : goal.returns-clause-closed
 returns-clause-closed g c settled =
-    let disk = g.D.Disk in
+    let seen = g.D.Disk.seen in
     let live = c.args.live in
     let quiet = c.reads_open.ensures.quiet in
-    let gate : IfSome (disk.seen c.args.disk.now) (λ f. true ≡ is_open (other_slot live.slot) f) = search rules in
-    let kept = quiet-settled disk.seen disk.image disk.moment disk.image_since (HasRoot live) c.args.disk.now c.reads_open.new.disk settled quiet in
+    let gate : IfSome (seen c.args.disk.now).contents (λ f. true ≡ is_open (other_slot live.slot) f) = search rules in
+    let kept = quiet-settled (HasRoot live) (seen c.args.disk.now) (seen c.reads_open.new.disk) settled quiet in
     let written = rw (c.gate_place.ensures.place, c.other-slot.ensures) at c.write_stable.ensures.written in
-    stable-settles disk.seen disk.image disk.moment disk.image_since c.write_stable.result (HasRoot live) (HasSpareSlot live) (gate_of (other_slot live.slot)) (0 ∷ []) c.reads_open.new.disk c.write_stable.new.disk kept
-    (λ file is has. let was = sym quiet.same ∙ is in closed live file (subst (λ s. RangeWithin s 0 64) was c.requires) has (read-open (other_slot live.slot) (disk.seen c.args.disk.now) file was gate)) written c.write_stable.ensures.settled
+    stable-settles c.write_stable.result (HasRoot live) (HasSpareSlot live) (gate_of (other_slot live.slot)) (0 ∷ []) (seen c.reads_open.new.disk) (seen c.write_stable.new.disk) kept
+    (λ file is has. let was = sym quiet.same ∙ is in closed live file (subst (λ s. RangeWithin s 0 64) was c.requires) has (read-open (other_slot live.slot) (seen c.args.disk.now).contents file was gate)) written c.write_stable.ensures.settled
 
 pub returns-clause-any_moment : goal.returns-clause-any_moment
 returns-clause-any_moment g c settled =
-    let disk = g.D.Disk in
+    let seen = g.D.Disk.seen in
     let live = c.args.live in
     let quiet = c.reads_open.ensures.quiet in
-    let gate : IfSome (disk.seen c.args.disk.now) (λ f. true ≡ is_open (other_slot live.slot) f) = search rules in
-    let kept = quiet-settled disk.seen disk.image disk.moment disk.image_since (HasRoot live) c.args.disk.now c.reads_open.new.disk settled quiet in
+    let gate : IfSome (seen c.args.disk.now).contents (λ f. true ≡ is_open (other_slot live.slot) f) = search rules in
+    let kept = quiet-settled (HasRoot live) (seen c.args.disk.now) (seen c.reads_open.new.disk) settled quiet in
     let run = rw (c.gate_place.ensures.place, c.other-slot.ensures) at c.write_stable.ensures.any_moment in
-    then_run disk.moment disk.image_since c.args.disk.now c.reads_open.new.disk c.write_stable.new.disk (HasRoot live)
-    (quiet-leaves disk.seen disk.image disk.moment disk.image_since g.met.D.Disk.only_now (HasRoot live) c.args.disk.now c.reads_open.new.disk settled quiet)
-    (stable-leaves disk.seen disk.image disk.moment disk.image_since (HasRoot live) (HasRoot live) (gate_of (other_slot live.slot)) 1 c.reads_open.new.disk c.write_stable.new.disk kept
-    (λ file i is has torn. let was = sym quiet.same ∙ is in closing live file (subst (λ s. RangeWithin s 0 64) was c.requires) i has (read-open (other_slot live.slot) (disk.seen c.args.disk.now) file was gate) torn) run)
+    then_run (seen c.args.disk.now) (seen c.reads_open.new.disk) (seen c.write_stable.new.disk) (HasRoot live)
+    (quiet-leaves (HasRoot live) (seen c.args.disk.now) (seen c.reads_open.new.disk) (g.met.D.Disk.lawful c.args.disk.now) settled quiet)
+    (stable-leaves (HasRoot live) (HasRoot live) (gate_of (other_slot live.slot)) 1 (seen c.reads_open.new.disk) (seen c.write_stable.new.disk) kept
+    (λ file i is has torn. let was = sym quiet.same ∙ is in closing live file (subst (λ s. RangeWithin s 0 64) was c.requires) i has (read-open (other_slot live.slot) (seen c.args.disk.now).contents file was gate) torn) run)
 
 pub returns-clause-elsewhere : goal.returns-clause-elsewhere
 returns-clause-elsewhere g c =
-    let disk = g.D.Disk in
+    let seen = g.D.Disk.seen in
     let quiet = c.reads_open.ensures.quiet in
     let place = c.gate_place.ensures.place ∙ ap gate_of c.other-slot.ensures in
     let low = c.gate_place.ensures.most in
     let gate = gate_of (other_slot c.args.live.slot) in
-    within-run disk.seen disk.image disk.moment disk.image_since gate 17 c.args.disk.now c.reads_open.new.disk c.write_stable.new.disk
-    (within-quiet disk.seen disk.image disk.moment disk.image_since g.met.D.Disk.only_now gate 17 c.args.disk.now c.reads_open.new.disk quiet)
-    (within-stable disk.seen disk.image disk.moment disk.image_since c.write_stable.result c.gate_place.result gate 17 (0 ∷ []) c.reads_open.new.disk c.write_stable.new.disk
-    (omega (arith, place)) (omega (arith, place)) (starts-head (disk.seen c.reads_open.new.disk) c.gate_place.result (rw quiet.same c.requires) (omega (arith, low)))
+    within-run gate 17 (seen c.args.disk.now) (seen c.reads_open.new.disk) (seen c.write_stable.new.disk)
+    (within-quiet gate 17 (seen c.args.disk.now) (seen c.reads_open.new.disk) (g.met.D.Disk.lawful c.args.disk.now) quiet)
+    (within-stable c.write_stable.result c.gate_place.result gate 17 (0 ∷ []) (seen c.reads_open.new.disk) (seen c.write_stable.new.disk)
+    (omega (arith, place)) (omega (arith, place)) (starts-head (seen c.reads_open.new.disk).contents c.gate_place.result (rw quiet.same c.requires) (omega (arith, low)))
     c.write_stable.ensures.written c.write_stable.ensures.in_part c.write_stable.ensures.images c.write_stable.ensures.any_moment)

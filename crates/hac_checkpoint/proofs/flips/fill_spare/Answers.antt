@@ -8,27 +8,27 @@ use Rattle.hac_checkpoint.proofs.flips.fill_spare.Goals as goal
 
 pub returns-clause-filled : goal.returns-clause-filled
 returns-clause-filled g c settled =
-    let disk = g.D.Disk in
+    let seen = g.D.Disk.seen in
     let live = c.args.live in
     let written = rw (c.gate_place.ensures.place, c.other.ensures) at c.write_stable.ensures.written in
-    stable-settles disk.seen disk.image disk.moment disk.image_since c.write_stable.result (HasSpareSlot live) (IsFilled live c.args.start) (gate_of (other_slot live.slot) + 1) c.slot_body-body.result c.args.disk.now c.write_stable.new.disk settled
+    stable-settles c.write_stable.result (HasSpareSlot live) (IsFilled live c.args.start) (gate_of (other_slot live.slot) + 1) c.slot_body-body.result (seen c.args.disk.now) (seen c.write_stable.new.disk) settled
     (λ file is has. filled live file (subst (λ s. RangeWithin s 0 64) is c.requires.head) c.args.start c.slot_body-body.result c.requires.generation c.ranges.start.fits c.slot_body-body.ensures has) written c.write_stable.ensures.settled
 
 pub returns-clause-any_moment : goal.returns-clause-any_moment
 returns-clause-any_moment g c settled =
-    let disk = g.D.Disk in
+    let seen = g.D.Disk.seen in
     let live = c.args.live in
     let long = length-body live.generation c.args.start c.slot_body-body.result c.slot_body-body.ensures in
     let run = rw (c.gate_place.ensures.place, c.other.ensures, long) at c.write_stable.ensures.any_moment in
-    stable-leaves disk.seen disk.image disk.moment disk.image_since (HasSpareSlot live) (HasRoot live) (gate_of (other_slot live.slot) + 1) 16 c.args.disk.now c.write_stable.new.disk settled
+    stable-leaves (HasSpareSlot live) (HasRoot live) (gate_of (other_slot live.slot) + 1) 16 (seen c.args.disk.now) (seen c.write_stable.new.disk) settled
     (λ file i is has torn. filling live file (subst (λ s. RangeWithin s 0 64) is c.requires.head) i has torn) run
 
 pub returns-clause-elsewhere : goal.returns-clause-elsewhere
 returns-clause-elsewhere g c =
-    let disk = g.D.Disk in
+    let seen = g.D.Disk.seen in
     let place = c.gate_place.ensures.place ∙ ap gate_of c.other.ensures in
     let long = length-body c.args.live.generation c.args.start c.slot_body-body.result c.slot_body-body.ensures in
     let low = c.gate_place.ensures.most in
-    within-stable disk.seen disk.image disk.moment disk.image_since c.write_stable.result (c.gate_place.result + 1) (gate_of (other_slot c.args.live.slot)) 17 c.slot_body-body.result c.args.disk.now c.write_stable.new.disk
-    (omega (arith, place)) (omega (arith, place, long)) (starts-head (disk.seen c.args.disk.now) (c.gate_place.result + 1) c.requires.head (omega (arith, low)))
+    within-stable c.write_stable.result (c.gate_place.result + 1) (gate_of (other_slot c.args.live.slot)) 17 c.slot_body-body.result (seen c.args.disk.now) (seen c.write_stable.new.disk)
+    (omega (arith, place)) (omega (arith, place, long)) (starts-head (seen c.args.disk.now).contents (c.gate_place.result + 1) c.requires.head (omega (arith, low)))
     c.write_stable.ensures.written c.write_stable.ensures.in_part c.write_stable.ensures.images c.write_stable.ensures.any_moment

@@ -6,15 +6,17 @@ use Rattle.hac_disk.proofs.stable.write_stable.Goals as goal
 
 pub returns-in_err-write_at-clause-any_moment : goal.returns-in_err-write_at-clause-any_moment
 returns-in_err-write_at-clause-any_moment g c =
-    let disk = g.D.Disk in
-    let torn = TornFrom c.args.at (length c.args.bytes.now) (disk.image c.args.disk.now) in
-    let begun = started disk.moment disk.image_since c.args.disk.now torn (λ i left. torn-from _ _ _ i (g.met.D.Disk.only_now c.args.disk.now i left)) in
-    then_write disk.moment disk.image_since c.args.disk.now c.args.disk.now c.write_at.new.self torn (disk.image c.write_at.new.self) begun c.write_at.ensures.time c.write_at.ensures.images
+    let seen = g.D.Disk.seen in
+    let old = seen c.args.disk.now in
+    let torn = TornFrom c.args.at (length c.args.bytes.now) old.image in
+    let begun = started old torn (λ i left. torn-from _ _ _ i ((g.met.D.Disk.lawful c.args.disk.now).only_now i left)) in
+    then_write old old (seen c.write_at.new.self) torn begun c.write_at.ensures.time c.write_at.ensures.images
 
 pub returns-clause-any_moment : goal.returns-clause-any_moment
 returns-clause-any_moment g c =
-    let disk = g.D.Disk in
-    let torn = TornFrom c.args.at (length c.args.bytes.now) (disk.image c.args.disk.now) in
-    let begun = started disk.moment disk.image_since c.args.disk.now torn (λ i left. torn-from _ _ _ i (g.met.D.Disk.only_now c.args.disk.now i left)) in
-    let written = then_write disk.moment disk.image_since c.args.disk.now c.args.disk.now c.write_at.new.self torn (disk.image c.write_at.new.self) begun c.write_at.ensures.time c.write_at.ensures.images in
-    then_quiet disk.moment disk.image_since disk.seen disk.image c.args.disk.now c.write_at.new.self c.sync.new.self torn written c.sync.ensures.quiet
+    let seen = g.D.Disk.seen in
+    let old = seen c.args.disk.now in
+    let torn = TornFrom c.args.at (length c.args.bytes.now) old.image in
+    let begun = started old torn (λ i left. torn-from _ _ _ i ((g.met.D.Disk.lawful c.args.disk.now).only_now i left)) in
+    let written = then_write old old (seen c.write_at.new.self) torn begun c.write_at.ensures.time c.write_at.ensures.images in
+    then_quiet old (seen c.write_at.new.self) (seen c.sync.new.self) torn written c.sync.ensures.quiet

@@ -9,7 +9,7 @@ use Rattle.hac_store.proofs.opening.read_unlinked.Goals as goal
 
 pub returns-in_err-root-clause-loads : goal.returns-in_err-root-clause-loads
 returns-in_err-root-clause-loads g c =
-    let seen = g.D.Disk.seen c.args.disk.now in
+    let seen = (g.D.Disk.seen c.args.disk.now).contents in
     let why = c.in_err-root.field-0.0 in
     let same : c.from_residual.result ≡ Err (of_root why) = search rules in
     record {
@@ -24,7 +24,7 @@ returns-in_err-root-clause-loads g c =
 
 pub returns-in_err-replay-clause-loads : goal.returns-in_err-replay-clause-loads
 returns-in_err-replay-clause-loads g c =
-    let seen = g.D.Disk.seen c.args.disk.now in
+    let seen = (g.D.Disk.seen c.args.disk.now).contents in
     let why = c.in_err-replay.field-0.0 in
     let same : c.from_residual-in_err-replay.result ≡ Err why = search rules in
     let begins = rw c.roots.ensures.quiet.same at c.in_err-replay.ensures.area in
@@ -40,7 +40,7 @@ returns-in_err-replay-clause-loads g c =
 
 pub returns-in-Err-clause-loads : goal.returns-in-Err-clause-loads
 returns-in-Err-clause-loads g c =
-    let seen = g.D.Disk.seen c.args.disk.now in
+    let seen = (g.D.Disk.seen c.args.disk.now).contents in
     let begun : Begun = c.in_ok-replay.field-0 in
     let begins = rw c.roots.ensures.quiet.same at c.in_ok-replay.ensures.area in
     let reads = rw (c.begin.ensures.quiet.same, c.roots.ensures.quiet.same) at c.in-Err.ensures.log in
@@ -50,8 +50,8 @@ returns-in-Err-clause-loads g c =
       state = opens-stop seen c.in_ok-root.root c.read_log.new.replay c.in-Err.fault c.in_ok-root.ensures.root
           (read-area (Err c.in-Err.fault) seen c.in_ok-root.root.start begun c.read_log.new.replay begins reads);
       place = search rules;
-      quiet = quiet-twice g.D.Disk.seen g.D.Disk.image g.D.Disk.moment g.D.Disk.image_since c.args.disk.now c.roots.new.disk c.read_log.new.disk c.roots.ensures.quiet
-          (quiet-twice g.D.Disk.seen g.D.Disk.image g.D.Disk.moment g.D.Disk.image_since c.roots.new.disk c.begin.new.disk c.read_log.new.disk c.begin.ensures.quiet c.in-Err.ensures.quiet);
+      quiet = quiet-twice (g.D.Disk.seen c.args.disk.now) (g.D.Disk.seen c.roots.new.disk) (g.D.Disk.seen c.read_log.new.disk) c.roots.ensures.quiet
+          (quiet-twice (g.D.Disk.seen c.roots.new.disk) (g.D.Disk.seen c.begin.new.disk) (g.D.Disk.seen c.read_log.new.disk) c.begin.ensures.quiet c.in-Err.ensures.quiet);
       kind = search rules;
       names = search rules;
       reported = search rules;
@@ -60,8 +60,7 @@ returns-in-Err-clause-loads g c =
 
 pub returns-in-Ok-clause-loads : goal.returns-in-Ok-clause-loads
 returns-in-Ok-clause-loads g c =
-    let disk = g.D.Disk in
-    let seen = disk.seen c.args.disk.now in
+    let seen = (g.D.Disk.seen c.args.disk.now).contents in
     let begun : Begun = c.in_ok-replay.field-0 in
     let begins = rw c.roots.ensures.quiet.same at c.in_ok-replay.ensures.area in
     let reads = rw (c.begin.ensures.quiet.same, c.roots.ensures.quiet.same) at c.in-Ok.ensures.log in
@@ -71,8 +70,8 @@ returns-in-Ok-clause-loads g c =
       state = opens-ok seen c.in_ok-root.root c.read_log.new.replay c.in-Ok.end c.in_ok-root.ensures.root
           (read-area (Ok c.in-Ok.end) seen c.in_ok-root.root.start begun c.read_log.new.replay begins reads);
       place = search rules;
-      quiet = quiet-twice disk.seen disk.image disk.moment disk.image_since c.args.disk.now c.roots.new.disk c.read_log.new.disk c.roots.ensures.quiet
-          (quiet-twice disk.seen disk.image disk.moment disk.image_since c.roots.new.disk c.begin.new.disk c.read_log.new.disk c.begin.ensures.quiet c.in-Ok.ensures.quiet);
+      quiet = quiet-twice (g.D.Disk.seen c.args.disk.now) (g.D.Disk.seen c.roots.new.disk) (g.D.Disk.seen c.read_log.new.disk) c.roots.ensures.quiet
+          (quiet-twice (g.D.Disk.seen c.roots.new.disk) (g.D.Disk.seen c.begin.new.disk) (g.D.Disk.seen c.read_log.new.disk) c.begin.ensures.quiet c.in-Ok.ensures.quiet);
       kind = search rules;
       names = search rules;
       reported = search rules;
@@ -84,5 +83,5 @@ pub returns-in-Ok-clause-opens : goal.returns-in-Ok-clause-opens
 returns-in-Ok-clause-opens g c =
     let loads = rw c.roots.ensures.quiet.same at c.in_ok-replay.ensures.loads in
     let opens = rw (c.begin.ensures.quiet.same, c.roots.ensures.quiet.same) at c.in-Ok.ensures.opens in
-    loaded-ready (g.D.Disk.seen c.args.disk.now) c.in_ok-root.root c.in_ok-replay.field-0 c.read_log.new.replay c.args.probes.now c.read_log.new.probes c.in_ok-root.ensures.root
+    loaded-ready (g.D.Disk.seen c.args.disk.now).contents c.in_ok-root.root c.in_ok-replay.field-0 c.read_log.new.replay c.args.probes.now c.read_log.new.probes c.in_ok-root.ensures.root
     loads opens

@@ -12,7 +12,7 @@ ask-requires-clause-answered g c =
     counts-answers s c.in-Ok.draft c.no_answers.result c.no_answers.ensures (counts-draft s c.in_ok-counts_line.field-0 c.in-Ok.draft c.in_ok-counts_line.ensures c.in-Ok.ensures.draft)
 
 pub only_memory-requires-in-Err : goal.only_memory-requires-in-Err
-only_memory-requires-in-Err g c = counts-refused c.args.machine.now.state c.in_ok-counts_line.field-0 c.in-Err.deny c.dirty-dirty.ensures.valid c.in_ok-counts_line.ensures c.in-Err.ensures.refused
+only_memory-requires-in-Err g c = counts-refused c.args.machine.now.state c.in_ok-counts_line.field-0 c.in-Err.deny c.requires c.in_ok-counts_line.ensures c.in-Err.ensures.refused
 
 -- it asks nothing, however it ends
 pub returns-in-Ok-ask-clause-probes : goal.returns-in-Ok-ask-clause-probes

@@ -8,7 +8,7 @@ use Rattle.hac_top.proofs.playing.play_script.Given as goal
 abbrev pub invariant-lines : goal.invariant-lines
 invariant-lines g l =
     record {
-      on : RunsOn g.D.Disk.seen g.D.Disk.image g.D.Disk.moment g.D.Disk.image_since g.D.Disk.attached g.D.Disk.faults l.fn.disk l.disk l.fn.player.tick l.fn.player.store.setting
+      on : RunsOn (g.D.Disk.seen l.fn.disk) (g.D.Disk.seen l.disk) l.fn.player.tick l.fn.player.store.setting
           (outside (g.S.Source.seen l.fn.input) (g.K.Sink.seen l.fn.output) l.fn.probes) (outside (g.S.Source.seen l.input) (g.K.Sink.seen l.output) l.probes) (g.P.Spaces.seen l.fn.spaces) (g.P.Spaces.seen l.spaces) l.reader l.player.store l.player.refused;
       tick : l.player.tick ≡ l.fn.player.tick;
     }

@@ -25,20 +25,18 @@ returns-in-Err-Memory-clause-spaces g c = memory-spaces (options (map string_byt
 
 pub returns-in-Err-Memory-clause-ran : goal.returns-in-Err-Memory-clause-ran
 returns-in-Err-Memory-clause-ran g c =
-    let disk = g.D.Disk in
     let before = outside (g.S.Source.seen c.args.input.now) (g.K.Sink.seen c.args.output.now) c.args.probes.now in
     let spaces = g.P.Spaces.seen c.args.spaces.now in
-    memory-ran disk.seen disk.image disk.moment disk.image_since disk.attached disk.faults g.met.D.Disk.only_now g.met.D.Disk.counts_now
-    (λ asked. CanAttach asked.spaces spaces spaces) (options (map string_bytes c.args.words.now)) c.args.disk.now before spaces
+    memory-ran
+    (λ asked. CanAttach asked.spaces spaces spaces) (options (map string_bytes c.args.words.now)) (g.D.Disk.seen c.args.disk.now) (g.met.D.Disk.lawful c.args.disk.now) before spaces
 
 pub returns-in-Err-Memory-clause-unopened : goal.returns-in-Err-Memory-clause-unopened
 returns-in-Err-Memory-clause-unopened g c =
-    let disk = g.D.Disk in
-    memory-quiet disk.seen disk.image disk.moment disk.image_since disk.attached disk.faults g.met.D.Disk.only_now g.met.D.Disk.counts_now
-    (options (map string_bytes c.args.words.now)) c.args.disk.now c.args.input.now c.args.output.now
+    memory-quiet
+    (options (map string_bytes c.args.words.now)) (g.D.Disk.seen c.args.disk.now) c.args.input.now c.args.output.now
 
 pub returns-in-Err-Memory-clause-attached : goal.returns-in-Err-Memory-clause-attached
-returns-in-Err-Memory-clause-attached g c = memory-attached (options (map string_bytes c.args.words.now)) (g.D.Disk.attached c.args.disk.now)
+returns-in-Err-Memory-clause-attached g c = memory-attached (options (map string_bytes c.args.words.now)) (g.D.Disk.seen c.args.disk.now).attached
 
 -- each space was attached, and the run went on to its store
 pub returns-in-Ok-attach_spaces-clause-usage : goal.returns-in-Ok-attach_spaces-clause-usage
@@ -59,14 +57,13 @@ returns-in-Ok-attach_spaces-clause-bad_space g c = λ bad. absurd (own-good c.ru
 
 pub returns-in-Ok-attach_spaces-clause-ran : goal.returns-in-Ok-attach_spaces-clause-ran
 returns-in-Ok-attach_spaces-clause-ran g c =
-    let disk = g.D.Disk in
     let seen = g.P.Spaces.seen in
     let before = outside (g.S.Source.seen c.args.input.now) (g.K.Sink.seen c.args.output.now) c.args.probes.now in
     let after = outside (g.S.Source.seen c.run_store.new.input) (g.K.Sink.seen c.run_store.new.output) c.run_store.new.probes in
     let files = spaces_asked c.in-Ok.options.spaces.items in
     let has : HasAttached files (seen c.args.spaces.now) (seen c.attach_spaces.new.spaces) = rw c.deref.ensures.value at c.in-Ok-attach_spaces.ensures.ok in
     rw c.in-Ok.ensures.read
-    (λ reads. ran-given disk.seen disk.image disk.moment disk.image_since disk.faults c.args.disk.now c.run_store.new.disk (seen c.args.spaces.now) (seen c.attach_spaces.new.spaces) (seen c.run_store.new.spaces) has.faults (asked_of c.in-Ok.options)
+    (λ reads. ran-given (g.D.Disk.seen c.args.disk.now) (g.D.Disk.seen c.run_store.new.disk) (seen c.args.spaces.now) (seen c.attach_spaces.new.spaces) (seen c.run_store.new.spaces) has.faults (asked_of c.in-Ok.options)
     ⊤ (CanAttach files (seen c.args.spaces.now) (seen c.run_store.new.spaces)) (λ _. tt) before after c.run_store.result (λ given setting script. ⊤) (c.run_store.ensures.ran reads))
 
 pub returns-in-Ok-attach_spaces-clause-unopened : goal.returns-in-Ok-attach_spaces-clause-unopened
@@ -95,7 +92,6 @@ returns-clause-spaces g c =
 
 pub returns-clause-ran : goal.returns-clause-ran
 returns-clause-ran g c =
-    let disk = g.D.Disk in
     let seen = g.P.Spaces.seen in
     let old = seen c.args.spaces.now in
     let new = seen c.attach_spaces.new.spaces in
@@ -103,28 +99,27 @@ returns-clause-ran g c =
     let before = outside (g.S.Source.seen c.args.input.now) (g.K.Sink.seen c.args.output.now) c.args.probes.now in
     let stops : StopsAttaching files old new c.in-Err.status = rw c.deref.ensures.value at c.in-Err.ensures.err in
     rw c.in-Ok.ensures.read
-    (λ _. ran-unattached disk.seen disk.image disk.moment disk.image_since disk.attached disk.faults g.met.D.Disk.only_now g.met.D.Disk.counts_now (CanAttach files old new) c.in-Err.status (is-unattached files old new c.in-Err.status stops)
-    (not-bad files old new c.in-Err.status stops) (asked_of c.in-Ok.options) c.args.disk.now before old new (stopped-later files old new c.in-Err.status stops) (λ given setting script. ⊤) (λ given setting script. tt))
+    (λ _. ran-unattached (CanAttach files old new) c.in-Err.status (is-unattached files old new c.in-Err.status stops)
+    (not-bad files old new c.in-Err.status stops) (asked_of c.in-Ok.options) (g.D.Disk.seen c.args.disk.now) (g.met.D.Disk.lawful c.args.disk.now) before old new (stopped-later files old new c.in-Err.status stops) (λ given setting script. ⊤) (λ given setting script. tt))
 
 pub returns-clause-unopened : goal.returns-clause-unopened
 returns-clause-unopened g c =
-    let disk = g.D.Disk in
     let seen = g.P.Spaces.seen in
     rw c.in-Ok.ensures.read
-    (unattached-quiet disk.seen disk.image disk.moment disk.image_since disk.attached disk.faults g.met.D.Disk.only_now g.met.D.Disk.counts_now c.in-Err.status
-    (is-unattached _ (seen c.args.spaces.now) (seen c.attach_spaces.new.spaces) c.in-Err.status c.in-Err.ensures.err) c.in-Ok.options.fresh c.args.disk.now c.args.input.now c.args.output.now (disk.seen c.args.disk.now))
+    (unattached-quiet c.in-Err.status
+    (is-unattached _ (seen c.args.spaces.now) (seen c.attach_spaces.new.spaces) c.in-Err.status c.in-Err.ensures.err) c.in-Ok.options.fresh (g.D.Disk.seen c.args.disk.now) c.args.input.now c.args.output.now (g.D.Disk.seen c.args.disk.now).contents)
 
 pub returns-clause-file : goal.returns-clause-file
 returns-clause-file g c =
     let seen = g.P.Spaces.seen in
     rw c.in-Ok.ensures.read
-    (unattached-file c.in-Err.status (is-unattached _ (seen c.args.spaces.now) (seen c.attach_spaces.new.spaces) c.in-Err.status c.in-Err.ensures.err) c.in-Ok.options.fresh (g.D.Disk.seen c.args.disk.now))
+    (unattached-file c.in-Err.status (is-unattached _ (seen c.args.spaces.now) (seen c.attach_spaces.new.spaces) c.in-Err.status c.in-Err.ensures.err) c.in-Ok.options.fresh (g.D.Disk.seen c.args.disk.now).contents)
 
 pub returns-clause-attached : goal.returns-clause-attached
 returns-clause-attached g c =
     let seen = g.P.Spaces.seen in
     rw c.in-Ok.ensures.read
-    (unattached-names c.in-Err.status (g.D.Disk.attached c.args.disk.now) (asked_of c.in-Ok.options) (is-unattached _ (seen c.args.spaces.now) (seen c.attach_spaces.new.spaces) c.in-Err.status c.in-Err.ensures.err))
+    (unattached-names c.in-Err.status (g.D.Disk.seen c.args.disk.now).attached (asked_of c.in-Ok.options) (is-unattached _ (seen c.args.spaces.now) (seen c.attach_spaces.new.spaces) c.in-Err.status c.in-Err.ensures.err))
 
 pub returns-clause-ends : goal.returns-clause-ends
 returns-clause-ends g c =
@@ -134,48 +129,45 @@ returns-clause-ends g c =
 pub returns-clause-disk_faults : goal.returns-clause-disk_faults
 returns-clause-disk_faults g c =
     let seen = g.P.Spaces.seen in
-    unattached-disk c.in-Err.status (g.D.Disk.faults c.args.disk.now) (is-unattached _ (seen c.args.spaces.now) (seen c.attach_spaces.new.spaces) c.in-Err.status c.in-Err.ensures.err)
+    unattached-disk c.in-Err.status (g.D.Disk.seen c.args.disk.now).faults (is-unattached _ (seen c.args.spaces.now) (seen c.attach_spaces.new.spaces) c.in-Err.status c.in-Err.ensures.err)
 
 -- the same of a script that is made
 pub returns-in-Err-Memory-clause-made : goal.returns-in-Err-Memory-clause-made
 returns-in-Err-Memory-clause-made g c =
-    let disk = g.D.Disk in
     let spaces = g.P.Spaces.seen c.args.spaces.now in
-    memory-made disk.seen disk.image disk.moment disk.image_since disk.attached disk.faults g.met.D.Disk.only_now g.met.D.Disk.counts_now
-    (λ asked. CanAttach asked.spaces spaces spaces) (options (map string_bytes c.args.words.now)) c.args.disk.now
+    memory-made
+    (λ asked. CanAttach asked.spaces spaces spaces) (options (map string_bytes c.args.words.now)) (g.D.Disk.seen c.args.disk.now) (g.met.D.Disk.lawful c.args.disk.now)
     (outside (g.S.Source.seen c.args.input.now) (g.K.Sink.seen c.args.output.now) c.args.probes.now) spaces
 
 pub returns-in-Ok-attach_spaces-clause-made : goal.returns-in-Ok-attach_spaces-clause-made
 returns-in-Ok-attach_spaces-clause-made g c =
-    let disk = g.D.Disk in
     let seen = g.P.Spaces.seen in
     let files = spaces_asked c.in-Ok.options.spaces.items in
     let has : HasAttached files (seen c.args.spaces.now) (seen c.attach_spaces.new.spaces) = rw c.deref.ensures.value at c.in-Ok-attach_spaces.ensures.ok in
     rw c.in-Ok.ensures.read
-    (made-given disk.seen disk.image disk.moment disk.image_since disk.attached disk.faults g.met.D.Disk.only_now g.met.D.Disk.counts_now (asked_of c.in-Ok.options) c.args.disk.now c.run_store.new.disk
+    (made-given (asked_of c.in-Ok.options) (g.D.Disk.seen c.args.disk.now) (g.D.Disk.seen c.run_store.new.disk)
     (outside (g.S.Source.seen c.args.input.now) (g.K.Sink.seen c.args.output.now) c.args.probes.now) (outside (g.S.Source.seen c.run_store.new.input) (g.K.Sink.seen c.run_store.new.output) c.run_store.new.probes)
     (seen c.args.spaces.now) (seen c.attach_spaces.new.spaces) (seen c.run_store.new.spaces) c.run_store.result (CanAttach files (seen c.args.spaces.now) (seen c.run_store.new.spaces)) has.faults c.in-Ok.options.make c.run_store.ensures.made)
 
 pub returns-clause-made : goal.returns-clause-made
 returns-clause-made g c =
-    let disk = g.D.Disk in
     let seen = g.P.Spaces.seen in
     let old = seen c.args.spaces.now in
     let new = seen c.attach_spaces.new.spaces in
     let files = spaces_asked c.in-Ok.options.spaces.items in
     let stops : StopsAttaching files old new c.in-Err.status = rw c.deref.ensures.value at c.in-Err.ensures.err in
     rw c.in-Ok.ensures.read
-    (made-unattached disk.seen disk.image disk.moment disk.image_since disk.attached disk.faults g.met.D.Disk.only_now g.met.D.Disk.counts_now
+    (made-unattached
     (CanAttach files old new) c.in-Err.status (is-unattached files old new c.in-Err.status stops)
-    (not-bad files old new c.in-Err.status stops) (asked_of c.in-Ok.options) c.args.disk.now (outside (g.S.Source.seen c.args.input.now) (g.K.Sink.seen c.args.output.now) c.args.probes.now) old new
+    (not-bad files old new c.in-Err.status stops) (asked_of c.in-Ok.options) (g.D.Disk.seen c.args.disk.now) (g.met.D.Disk.lawful c.args.disk.now) (outside (g.S.Source.seen c.args.input.now) (g.K.Sink.seen c.args.output.now) c.args.probes.now) old new
     (stopped-later files old new c.in-Err.status stops) c.in-Ok.options.make)
 
 -- where no store is open, no more is asked than finding that may take
 pub returns-in-Err-Memory-clause-unopened_asks : goal.returns-in-Err-Memory-clause-unopened_asks
-returns-in-Err-Memory-clause-unopened_asks g c = unopened-early (options (map string_bytes c.args.words.now)) (g.D.Disk.seen c.args.disk.now) c.args.probes.now
+returns-in-Err-Memory-clause-unopened_asks g c = unopened-early (options (map string_bytes c.args.words.now)) (g.D.Disk.seen c.args.disk.now).contents c.args.probes.now
 
 pub returns-in-Ok-attach_spaces-clause-unopened_asks : goal.returns-in-Ok-attach_spaces-clause-unopened_asks
 returns-in-Ok-attach_spaces-clause-unopened_asks g c = rw c.in-Ok.ensures.read c.run_store.ensures.unopened_asks
 
 pub returns-clause-unopened_asks : goal.returns-clause-unopened_asks
-returns-clause-unopened_asks g c = rw c.in-Ok.ensures.read (unopened-still c.in-Ok.options.fresh (g.D.Disk.seen c.args.disk.now) c.args.probes.now)
+returns-clause-unopened_asks g c = rw c.in-Ok.ensures.read (unopened-still c.in-Ok.options.fresh (g.D.Disk.seen c.args.disk.now).contents c.args.probes.now)

@@ -12,20 +12,20 @@ returns-in-Change-clause-stores g c =
     let can = rw c.in-Change.is at c.requires.can in
     let event : Event = c.in-Change.change.event in
     let all = ap (λ (b : Bool). cond b (event ∷ []) []) can.2 in
-    rw c.in-Change.is (stores-once g.met.D.Disk.only_now c.command.result all c.requires.usable.place c.command.ensures.stores)
+    rw c.in-Change.is (stores-once (g.met.D.Disk.lawful c.args.disk.now) c.command.result all c.requires.usable.place c.command.ensures.stores)
 
 pub returns-in_ok-stand-in-Session-clause-stores : goal.returns-in_ok-stand-in-Session-clause-stores
 returns-in_ok-stand-in-Session-clause-stores g c =
     let can = rw c.in-Session.is at c.requires.can in
-    rw c.in-Session.is (moves-session g.met.D.Disk.only_now c.args.disk.now c.args.store.now c.stand.new.self c.in-Session.event can.1 c.in_ok-stand-in-Session.ensures.moved c.requires.usable.place)
+    rw c.in-Session.is (moves-session (g.D.Disk.seen c.args.disk.now) (g.met.D.Disk.lawful c.args.disk.now) c.args.store.now c.stand.new.self c.in-Session.event can.1 c.in_ok-stand-in-Session.ensures.moved c.requires.usable.place)
 
 pub returns-in_err-stand-in-Session-clause-stores : goal.returns-in_err-stand-in-Session-clause-stores
 returns-in_err-stand-in-Session-clause-stores g c =
     let stop = err_from_is_err_and c.from_residual.result c.from_residual.ensures.1 in
-    rw (c.in-Session.is, c.in_err-stand-in-Session.ensures.stayed, stop.1 ∙ ap Err stop.2) (stops-first g.met.D.Disk.only_now c.args.disk.now c.args.store.now (standing_turn c.args.store.now.setting c.in-Session.event))
+    rw (c.in-Session.is, c.in_err-stand-in-Session.ensures.stayed, stop.1 ∙ ap Err stop.2) (stops-first (g.D.Disk.seen c.args.disk.now) (g.met.D.Disk.lawful c.args.disk.now) c.args.store.now (standing_turn c.args.store.now.setting c.in-Session.event))
 
 pub returns-in-Checkpoint-clause-stores : goal.returns-in-Checkpoint-clause-stores
-returns-in-Checkpoint-clause-stores g c = rw c.in-Checkpoint.is (stores-saved g.met.D.Disk.only_now c.checkpoint.result c.requires.usable.place c.checkpoint.ensures)
+returns-in-Checkpoint-clause-stores g c = rw c.in-Checkpoint.is (stores-saved (g.met.D.Disk.lawful c.args.disk.now) c.checkpoint.result c.requires.usable.place c.checkpoint.ensures)
 
 pub returns-in-Change-clause-probes : goal.returns-in-Change-clause-probes
 returns-in-Change-clause-probes g c =

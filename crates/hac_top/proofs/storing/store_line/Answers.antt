@@ -12,22 +12,22 @@ pub returns-in_err-decision : goal.returns-in_err-decision
 returns-in_err-decision g c =
     let stop = err_from_is_err_and c.from_residual.result c.from_residual.ensures.1 in
     rw (stop.1 ∙ ap Err stop.2)
-    (item-first g.met.D.Disk.only_now c.args.disk.now (g.P.Spaces.seen c.args.spaces.now) (g.P.Spaces.seen c.decide.new.spaces) c.args.store.now c.machine.result.now.state (item_taken c.args.line c.args.taken) c.decide.result c.machine.ensures c.decide.ensures.decides c.decide.ensures.probes)
+    (item-first (g.D.Disk.seen c.args.disk.now) (g.met.D.Disk.lawful c.args.disk.now) (g.P.Spaces.seen c.args.spaces.now) (g.P.Spaces.seen c.decide.new.spaces) c.args.store.now c.machine.result.now.state (item_taken c.args.line c.args.taken) c.decide.result c.machine.ensures.state c.decide.ensures.decides c.decide.ensures.probes)
 
 pub returns-in-Answer : goal.returns-in-Answer
 returns-in-Answer g c =
     let decides = rw c.in-Answer.is at c.in_ok-decision.ensures.decides in
-    item-stored c.args.disk.now c.args.disk.now (g.P.Spaces.seen c.args.spaces.now) (g.P.Spaces.seen c.decide.new.spaces) c.args.store.now c.args.store.now c.machine.result.now.state (item_taken c.args.line c.args.taken) (Answer c.in-Answer.reply) c.machine.ensures decides c.decide.ensures.probes (omega arith)
-    (answers-only g.met.D.Disk.only_now c.args.disk.now c.args.store.now c.in-Answer.reply c.requires.place)
+    item-stored (g.D.Disk.seen c.args.disk.now) (g.D.Disk.seen c.args.disk.now) (g.P.Spaces.seen c.args.spaces.now) (g.P.Spaces.seen c.decide.new.spaces) c.args.store.now c.args.store.now c.machine.result.now.state (item_taken c.args.line c.args.taken) (Answer c.in-Answer.reply) c.machine.ensures.state decides c.decide.ensures.probes (omega arith)
+    (answers-only (g.D.Disk.seen c.args.disk.now) (g.met.D.Disk.lawful c.args.disk.now) c.args.store.now c.in-Answer.reply c.requires.place)
 
 pub store_events-requires-clause-can : goal.store_events-requires-clause-can
 store_events-requires-clause-can g c =
     let decides = rw c.in-Change.is at c.in_ok-decision.ensures.decides in
-    subst (λ (s : State). CanSettle s c.in-Change.settled) c.machine.ensures decides.happen
+    subst (λ (s : State). CanSettle s c.in-Change.settled) c.machine.ensures.state decides.happen
 
 pub returns-in-Change : goal.returns-in-Change
 returns-in-Change g c =
     let decides = rw c.in-Change.is at c.in_ok-decision.ensures.decides in
     rw c.storing_reply.ensures
-    (item-stored c.args.disk.now c.store_events.new.disk (g.P.Spaces.seen c.args.spaces.now) (g.P.Spaces.seen c.decide.new.spaces) c.args.store.now c.store_events.new.store c.machine.result.now.state (item_taken c.args.line c.args.taken) (Change c.in-Change.settled) c.machine.ensures
+    (item-stored (g.D.Disk.seen c.args.disk.now) (g.D.Disk.seen c.store_events.new.disk) (g.P.Spaces.seen c.args.spaces.now) (g.P.Spaces.seen c.decide.new.spaces) c.args.store.now c.store_events.new.store c.machine.result.now.state (item_taken c.args.line c.args.taken) (Change c.in-Change.settled) c.machine.ensures.state
     decides c.decide.ensures.probes c.store_events.ensures.probes c.store_events.ensures.stores)

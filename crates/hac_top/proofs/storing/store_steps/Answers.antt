@@ -9,13 +9,13 @@ use Rattle.hac_top.proofs.storing.store_steps.Goals as goal
 
 pub returns-then-not-room_for_steps-clause-stores : goal.returns-then-not-room_for_steps-clause-stores
 returns-then-not-room_for_steps-clause-stores g c =
-    full-turn g.met.D.Disk.only_now c.args.disk.now c.args.store.now (steps c.args.count) c.requires.usable.place (sym c.room_for_steps.ensures ∙ c.if-not-room_for_steps.true)
+    full-turn (g.D.Disk.seen c.args.disk.now) (g.met.D.Disk.lawful c.args.disk.now) c.args.store.now (steps c.args.count) c.requires.usable.place (sym c.room_for_steps.ensures ∙ c.if-not-room_for_steps.true)
 
 pub loop-left-init : goal.loop-left-init
 loop-left-init g c =
     record {
       within = omega arith;
-      so_far = none-stepped g.met.D.Disk.only_now c.args.disk.now c.args.store.now (c.args.count - c.args.count) c.args.count (omega arith) (sym (steps-have-room c.args.store.now.setting c.args.count) ∙ sym c.room_for_steps.ensures ∙ c.if-not-room_for_steps.false) c.requires.usable.place;
+      so_far = none-stepped (g.D.Disk.seen c.args.disk.now) (g.met.D.Disk.lawful c.args.disk.now) c.args.store.now (c.args.count - c.args.count) c.args.count (omega arith) (sym (steps-have-room c.args.store.now.setting c.args.count) ∙ sym c.room_for_steps.ensures ∙ c.if-not-room_for_steps.false) c.requires.usable.place;
       asks = omega arith;
     }
 
@@ -48,7 +48,7 @@ returns-in_err-steps-clause-stores g c =
     let stop = err_from_is_err_and c.from_residual.result c.from_residual.ensures.1 in
     let was = c.loop-left.invariant in
     rw (stop.1 ∙ ap Err stop.2)
-    (part-stopped was.so_far c.min-batch.result (omega (arith, was.within, c.min-batch.ensures)) (omega (arith, c.loop-left-test.true, c.min-batch.ensures)) c.in_err-steps.field-0.0 c.in_err-steps.ensures.stores)
+    (part-stopped g.D.Disk.seen c.loop-left.disk c.steps.new.disk was.so_far c.min-batch.result (omega (arith, was.within, c.min-batch.ensures)) (omega (arith, c.loop-left-test.true, c.min-batch.ensures)) c.in_err-steps.field-0.0 c.in_err-steps.ensures.stores)
 
 pub loop-left-preserved : goal.loop-left-preserved
 loop-left-preserved g c =
@@ -56,7 +56,7 @@ loop-left-preserved g c =
     record {
       within = omega (arith, was.within);
       so_far =
-          part-stepped was.so_far c.min-batch.result (omega (arith, was.within, c.min-batch.ensures)) c.in_ok-steps.ensures.stores (c.args.count - (c.loop-left.left - c.min-batch.result))
+          part-stepped g.D.Disk.seen c.loop-left.disk c.steps.new.disk was.so_far c.min-batch.result (omega (arith, was.within, c.min-batch.ensures)) c.in_ok-steps.ensures.stores (c.args.count - (c.loop-left.left - c.min-batch.result))
           (omega (arith, was.within, c.min-batch.ensures));
       asks =
           batch-asks c.args.store.now.setting.state c.loop-left.store.setting (c.args.count - c.loop-left.left) c.min-batch.result (c.args.count - (c.loop-left.left - c.min-batch.result)) c.args.probes.now c.loop-left.probes c.steps.new.probes

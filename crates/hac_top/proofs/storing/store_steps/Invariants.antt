@@ -10,7 +10,7 @@ abbrev pub invariant-loop-left : goal.invariant-loop-left
 invariant-loop-left g l =
     record {
       within : l.left ≤ l.fn.count;
-      so_far : Stepped g.D.Disk.seen g.D.Disk.image g.D.Disk.moment g.D.Disk.image_since g.D.Disk.attached g.D.Disk.faults l.fn.disk l.disk l.fn.store l.store (l.fn.count - l.left) l.fn.count;
+      so_far : Stepped (g.D.Disk.seen l.fn.disk) (g.D.Disk.seen l.disk) l.fn.store l.store (l.fn.count - l.left) l.fn.count;
       asks : l.probes ≤ l.fn.probes + costs l.fn.store.setting.state (replicate (l.fn.count - l.left) Step);
     }
 

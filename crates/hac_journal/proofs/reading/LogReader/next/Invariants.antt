@@ -5,11 +5,11 @@ use Rattle.hac_journal.specs.Finding.{held_from}
 use Rattle.hac_journal.proofs.reading.LogReader.next.Given as goal
 
 abbrev pub invariant-loop-size : goal.invariant-loop-size
-invariant-loop-size g l = let disk = g.D.Disk in record {
-  held : StandAt (disk.seen l.disk) l.self.start l.self.bytes;
-  quiet : IsQuiet disk.seen disk.image disk.moment disk.image_since l.initial.disk l.disk;
-  attached : disk.attached l.disk ≡ disk.attached l.initial.disk;
-  faults : disk.faults l.disk ≡ disk.faults l.initial.disk;
+invariant-loop-size g l = let seen = g.D.Disk.seen in record {
+  held : StandAt (seen l.disk).contents l.self.start l.self.bytes;
+  quiet : IsQuiet (seen l.initial.disk) (seen l.disk);
+  attached : (seen l.disk).attached ≡ (seen l.initial.disk).attached;
+  faults : (seen l.disk).faults ≡ (seen l.initial.disk).faults;
 }
 
 abbrev pub decreases-loop-size : goal.decreases-loop-size

@@ -17,7 +17,7 @@ write_event-requires g c =
     (accepted-spelled c.args.self.now.setting.state c.args.change.event (subst IsValid state c.self.invariant.0) c.requires.can.2 c.requires.can.0.0)
 
 pub returns-in-Err-clause-stores : goal.returns-in-Err-clause-stores
-returns-in-Err-clause-stores g c = none-stored g.met.D.Disk.only_now refl (refl, refl) refl
+returns-in-Err-clause-stores g c = none-stored (g.met.D.Disk.lawful c.args.disk.now) refl (refl, refl) refl
 
 pub put-requires-clause-stored : goal.put-requires-clause-stored
 put-requires-clause-stored g c = (c.requires.can.2, tt)
@@ -27,7 +27,7 @@ pub returns-then-not-room_for-clause-stores : goal.returns-then-not-room_for-cla
 returns-then-not-room_for-clause-stores g c =
     let version = c.version.ensures ∙ ap (λ (x : Seen). x.setting.state.version) c.self.view_is in
     let room = record-has-room c.args.self.now.setting c.args.change.event c.version.result c.in-Ok.payload.items c.len.result version c.in-Ok.ensures (c.len.ensures ∙ c.in-Ok.payload.ok.0) in
-    none-stored g.met.D.Disk.only_now refl (room ∙ sym c.room_for.ensures ∙ c.if-not-room_for.true, (refl, refl)) refl
+    none-stored (g.met.D.Disk.lawful c.args.disk.now) refl (room ∙ sym c.room_for.ensures ∙ c.if-not-room_for.true, (refl, refl)) refl
 
 pub returns-else-not-room_for-clause-probes : goal.returns-else-not-room_for-clause-probes
 returns-else-not-room_for-clause-probes g c =

@@ -11,23 +11,23 @@ use Rattle.hac_store.proofs.store.Store.load.Goals as goal
 
 pub returns-in-Ok-clause-stands : goal.returns-in-Ok-clause-stands
 returns-in-Ok-clause-stands g c =
-    let disk = g.D.Disk in
-    let mid = c.sync.new.self in
-    let new = c.read_unlinked.new.disk in
-    loaded-stands (disk.seen c.args.disk.now) (disk.seen mid) (disk.seen new) (disk.image mid) (disk.image new) c.linked.result c.in-Ok.unlinked
-    c.sync.ensures.quiet.same c.in-Ok.ensures.loads.quiet.same c.in-Ok.ensures.loads.quiet.images c.in_ok-sync.ensures.settled c.in-Ok.ensures.loads.state c.linked.ensures.store
+    let seen = g.D.Disk.seen in
+    let mid = seen c.sync.new.self in
+    let new = seen c.read_unlinked.new.disk in
+    loaded-stands (seen c.args.disk.now) mid new c.linked.result c.in-Ok.unlinked
+    c.sync.ensures.quiet.same c.in-Ok.ensures.loads.quiet c.in_ok-sync.ensures.settled c.in-Ok.ensures.loads.state c.linked.ensures.store
 
 pub returns-in-Ok-clause-loads : goal.returns-in-Ok-clause-loads
 returns-in-Ok-clause-loads g c =
-    let disk = g.D.Disk in
+    let seen = g.D.Disk.seen in
     let unlinked = c.in-Ok.unlinked in
     let read = c.in-Ok.ensures.loads in
-    let told = disk.seen c.args.disk.now in
+    let told = (seen c.args.disk.now).contents in
     let was = c.sync.ensures.quiet.same in
     record {
       state = linked-opens c.linked.result unlinked c.linked.ensures.store c.linked.ensures.memory told (subst (λ (seen : Option (List ℕ)). IfSome seen (λ file. Opens (Ok unlinked) (held file))) was read.state);
-      place = linked-bears c.linked.result unlinked c.linked.ensures.store c.linked.ensures.memory (disk.seen c.read_unlinked.new.disk) read.place;
-      quiet = quiet-twice disk.seen disk.image disk.moment disk.image_since c.args.disk.now c.sync.new.self c.read_unlinked.new.disk c.sync.ensures.quiet read.quiet;
+      place = linked-bears c.linked.result unlinked c.linked.ensures.store c.linked.ensures.memory (seen c.read_unlinked.new.disk) read.place;
+      quiet = quiet-twice (seen c.args.disk.now) (seen c.sync.new.self) (seen c.read_unlinked.new.disk) c.sync.ensures.quiet read.quiet;
       kind = linked-kind c.linked.result unlinked c.linked.ensures.store c.linked.ensures.memory;
       names = read.names ∙ c.sync.ensures.attached;
       reported = search rules;
@@ -37,6 +37,6 @@ returns-in-Ok-clause-loads g c =
 
 pub returns-in-Ok-clause-settled : goal.returns-in-Ok-clause-settled
 returns-in-Ok-clause-settled g c =
-    let disk = g.D.Disk in
+    let seen = g.D.Disk.seen in
     let read = c.in-Ok.ensures.loads.quiet in
-    linked-settled c.linked.result (disk.seen c.sync.new.self) (disk.seen c.read_unlinked.new.disk) (disk.image c.sync.new.self) (disk.image c.read_unlinked.new.disk) read.same read.images c.in_ok-sync.ensures.settled
+    linked-settled c.linked.result (seen c.sync.new.self) (seen c.read_unlinked.new.disk) read c.in_ok-sync.ensures.settled

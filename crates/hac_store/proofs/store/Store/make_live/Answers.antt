@@ -17,50 +17,50 @@ write_area-requires-clause-size g c =
 
 pub close_and_fill-requires-clause-head : goal.close_and_fill-requires-clause-head
 close_and_fill-requires-clause-head g c =
-    let disk = g.D.Disk in
+    let seen = g.D.Disk.seen in
     let sound = c.root-live.ensures in
-    part-head (disk.seen c.args.disk.now) (disk.seen c.write_area.new.disk) _ _ c.write_area.ensures.elsewhere.in_part
-    (place-head c.args.self.now c.args.at sound.order c.requires.free (disk.seen c.args.disk.now)
+    part-head (seen c.args.disk.now).contents (seen c.write_area.new.disk).contents _ _ c.write_area.ensures.elsewhere.in_part
+    (place-head c.args.self.now c.args.at sound.order c.requires.free (g.D.Disk.seen c.args.disk.now)
     c.requires.place)
 
 pub open_root-requires : goal.open_root-requires
 open_root-requires g c =
-    let disk = g.D.Disk in
+    let seen = g.D.Disk.seen in
     let sound = c.root-live.ensures in
-    part-head (disk.seen c.write_area.new.disk) (disk.seen c.close_and_fill.new.disk) _ _
+    part-head (seen c.write_area.new.disk).contents (seen c.close_and_fill.new.disk).contents _ _
     c.close_and_fill.ensures.elsewhere.in_part
-    (part-head (disk.seen c.args.disk.now) (disk.seen c.write_area.new.disk) _ _ c.write_area.ensures.elsewhere.in_part
-    (place-head c.args.self.now c.args.at sound.order c.requires.free (disk.seen c.args.disk.now)
+    (part-head (seen c.args.disk.now).contents (seen c.write_area.new.disk).contents _ _ c.write_area.ensures.elsewhere.in_part
+    (place-head c.args.self.now c.args.at sound.order c.requires.free (g.D.Disk.seen c.args.disk.now)
     c.requires.place))
 
 pub returns-in_err-end-clause-any_moment : goal.returns-in_err-end-clause-any_moment
 returns-in_err-end-clause-any_moment g c =
-    let disk = g.D.Disk in
-    let old = c.args.disk.now in
+    let seen = g.D.Disk.seen in
+    let old = seen c.args.disk.now in
     let sound = c.root-live.ensures in
     let elsewhere = rw c.requires.text at c.write_area.ensures.elsewhere in
-    writing-moments disk.seen disk.image disk.moment disk.image_since c.args.self.now c.args.at sound.valid sound.order
-    c.requires.free old c.write_area.new.disk (g.met.D.Disk.read_is_image old) c.requires.place
+    writing-moments c.args.self.now c.args.at sound.valid sound.order
+    c.requires.free old (seen c.write_area.new.disk) (g.met.D.Disk.lawful c.args.disk.now) c.requires.place
     elsewhere
 
 pub returns-in_err-close_and_fill-clause-any_moment : goal.returns-in_err-close_and_fill-clause-any_moment
 returns-in_err-close_and_fill-clause-any_moment g c =
-    let disk = g.D.Disk in
-    let old = c.args.disk.now in
+    let seen = g.D.Disk.seen in
+    let old = seen c.args.disk.now in
     let sound = c.root-live.ensures in
     let elsewhere = rw c.requires.text at c.write_area.ensures.elsewhere in
     let written = rw c.requires.text at c.in_ok-end.ensures.written in
     let fills = rw sound.root at c.close_and_fill.ensures.any_moment in
     let filled = rw sound.root at c.close_and_fill.ensures.elsewhere in
-    filling-moments disk.seen disk.image disk.moment disk.image_since c.args.self.now c.args.at sound.valid sound.order
-    c.requires.free old c.write_area.new.disk (g.met.D.Disk.read_is_image old) c.requires.place
+    filling-moments c.args.self.now c.args.at sound.valid sound.order
+    c.requires.free old (seen c.write_area.new.disk) (g.met.D.Disk.lawful c.args.disk.now) c.requires.place
     elsewhere
-    c.close_and_fill.new.disk written c.in_ok-end.ensures.settled fills filled
+    (seen c.close_and_fill.new.disk) written c.in_ok-end.ensures.settled fills filled
 
 pub returns-in_err-open_root-clause-any_moment : goal.returns-in_err-open_root-clause-any_moment
 returns-in_err-open_root-clause-any_moment g c =
-    let disk = g.D.Disk in
-    let old = c.args.disk.now in
+    let seen = g.D.Disk.seen in
+    let old = seen c.args.disk.now in
     let sound = c.root-live.ensures in
     let elsewhere = rw c.requires.text at c.write_area.ensures.elsewhere in
     let written = rw c.requires.text at c.in_ok-end.ensures.written in
@@ -69,16 +69,16 @@ returns-in_err-open_root-clause-any_moment g c =
     let fill = rw sound.root at c.in_ok-close_and_fill.ensures.filled in
     let opens = rw sound.root at c.open_root.ensures.any_moment c.args.at in
     let opened = rw sound.root at c.open_root.ensures.elsewhere in
-    opening-moments disk.seen disk.image disk.moment disk.image_since c.args.self.now c.args.at sound.valid sound.order
-    c.requires.free old c.write_area.new.disk (g.met.D.Disk.read_is_image old) c.requires.place
+    opening-moments c.args.self.now c.args.at sound.valid sound.order
+    c.requires.free old (seen c.write_area.new.disk) (g.met.D.Disk.lawful c.args.disk.now) c.requires.place
     elsewhere
-    c.close_and_fill.new.disk written c.in_ok-end.ensures.settled fills filled
-    c.open_root.new.disk fill opens opened
+    (seen c.close_and_fill.new.disk) written c.in_ok-end.ensures.settled fills filled
+    (seen c.open_root.new.disk) fill opens opened
 
 pub returns-clause-any_moment : goal.returns-clause-any_moment
 returns-clause-any_moment g c =
-    let disk = g.D.Disk in
-    let old = c.args.disk.now in
+    let seen = g.D.Disk.seen in
+    let old = seen c.args.disk.now in
     let sound = c.root-live.ensures in
     let elsewhere = rw c.requires.text at c.write_area.ensures.elsewhere in
     let written = rw c.requires.text at c.in_ok-end.ensures.written in
@@ -87,16 +87,16 @@ returns-clause-any_moment g c =
     let fill = rw sound.root at c.in_ok-close_and_fill.ensures.filled in
     let opens = rw sound.root at c.open_root.ensures.any_moment c.args.at in
     let opened = rw sound.root at c.open_root.ensures.elsewhere in
-    opening-moments disk.seen disk.image disk.moment disk.image_since c.args.self.now c.args.at sound.valid sound.order
-    c.requires.free old c.write_area.new.disk (g.met.D.Disk.read_is_image old) c.requires.place
+    opening-moments c.args.self.now c.args.at sound.valid sound.order
+    c.requires.free old (seen c.write_area.new.disk) (g.met.D.Disk.lawful c.args.disk.now) c.requires.place
     elsewhere
-    c.close_and_fill.new.disk written c.in_ok-end.ensures.settled fills filled
-    c.open_root.new.disk fill opens opened
+    (seen c.close_and_fill.new.disk) written c.in_ok-end.ensures.settled fills filled
+    (seen c.open_root.new.disk) fill opens opened
 
 pub returns-clause-made : goal.returns-clause-made
 returns-clause-made g c =
-    let disk = g.D.Disk in
-    let old = c.args.disk.now in
+    let seen = g.D.Disk.seen in
+    let old = seen c.args.disk.now in
     let sound = c.root-live.ensures in
     let elsewhere = rw c.requires.text at c.write_area.ensures.elsewhere in
     let written = rw c.requires.text at c.in_ok-end.ensures.written in
@@ -106,17 +106,17 @@ returns-clause-made g c =
     let opens = rw sound.root at c.open_root.ensures.any_moment c.args.at in
     let opened = rw sound.root at c.open_root.ensures.elsewhere in
     let flips = rw sound.root at c.in_ok-open_root.ensures.opened c.args.at in
-    flipped-made disk.seen disk.image disk.moment disk.image_since c.args.self.now c.args.at sound.valid sound.order
-    c.requires.free old c.write_area.new.disk (g.met.D.Disk.read_is_image old) c.requires.place
+    flipped-made c.args.self.now c.args.at sound.valid sound.order
+    c.requires.free old (seen c.write_area.new.disk) (g.met.D.Disk.lawful c.args.disk.now) c.requires.place
     elsewhere
-    c.close_and_fill.new.disk written c.in_ok-end.ensures.settled fills filled
-    c.open_root.new.disk fill opens opened flips
+    (seen c.close_and_fill.new.disk) written c.in_ok-end.ensures.settled fills filled
+    (seen c.open_root.new.disk) fill opens opened flips
     (rw (c.in_ok-end.ensures.end, c.requires.text) at c.in_ok-end.ensures.gate)
 
 pub returns-clause-stands : goal.returns-clause-stands
 returns-clause-stands g c =
-    let disk = g.D.Disk in
-    let old = c.args.disk.now in
+    let seen = g.D.Disk.seen in
+    let old = seen c.args.disk.now in
     let sound = c.root-live.ensures in
     let elsewhere = rw c.requires.text at c.write_area.ensures.elsewhere in
     let written = rw c.requires.text at c.in_ok-end.ensures.written in
@@ -126,8 +126,8 @@ returns-clause-stands g c =
     let opens = rw sound.root at c.open_root.ensures.any_moment c.args.at in
     let opened = rw sound.root at c.open_root.ensures.elsewhere in
     let flips = rw sound.root at c.in_ok-open_root.ensures.opened c.args.at in
-    flipped-stands disk.seen disk.image disk.moment disk.image_since c.args.self.now c.args.at sound.valid sound.order
-    c.requires.free old c.write_area.new.disk (g.met.D.Disk.read_is_image old) c.requires.place
+    flipped-stands c.args.self.now c.args.at sound.valid sound.order
+    c.requires.free old (seen c.write_area.new.disk) (g.met.D.Disk.lawful c.args.disk.now) c.requires.place
     elsewhere
-    c.close_and_fill.new.disk written c.in_ok-end.ensures.settled fills filled
-    c.open_root.new.disk fill opens opened flips
+    (seen c.close_and_fill.new.disk) written c.in_ok-end.ensures.settled fills filled
+    (seen c.open_root.new.disk) fill opens opened flips

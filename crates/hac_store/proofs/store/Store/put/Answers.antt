@@ -47,13 +47,13 @@ returns-in_err-prepare-clause-stores g c =
     let same = put-seen c.args.self.now c.self.inside.machine.state c.prepare.new.self.state c.self.inside.start c.self.inside.end c.self.inside.generation c.self.inside.end c.self.inside.slot c.self.inside.broken []
     c.self.view_is (ap (λ (m : Kept). m.state) c.in_err-prepare.ensures.err) refl in
     rw (stop.1 ∙ ap Err stop.2)
-    (none-stored g.met.D.Disk.only_now refl (same, refl) refl)
+    (none-stored (g.met.D.Disk.lawful c.args.disk.now) refl (same, refl) refl)
 
 pub returns-in-Ok-clause-stores : goal.returns-in-Ok-clause-stores
 returns-in-Ok-clause-stores g c =
-    let disk = g.D.Disk in
-    let old = c.args.disk.now in
-    let new = c.append.new.disk in
+    let seen = g.D.Disk.seen in
+    let old = seen c.args.disk.now in
+    let new = seen c.append.new.disk in
     let z = c.args.self.now.setting in
     let events = settled_events c.args.settled in
     let size : c.self.inside.end ≡ z.end = ap (λ (x : Seen). x.setting.end) c.self.view_is in
@@ -72,34 +72,34 @@ returns-in-Ok-clause-stores g c =
         room = has-room c.args.payloads.now events z c.requires.texts (λ past. let never = full.1 past in cc);
         store = is;
         written =
-            subst (λ (l : List (List ℕ)). Written (g.D.Disk.seen c.args.disk.now) c.args.self.now.setting.end (log_of l) (g.D.Disk.seen c.append.new.disk)) c.requires.texts
+            subst (λ (l : List (List ℕ)). Written old.contents c.args.self.now.setting.end (log_of l) new.contents) c.requires.texts
             (rw size at c.in-Ok.ensures.written);
         settled = c.in-Ok.ensures.settled;
         place = (
           c.in-Ok.ensures.gate,
-          subst (λ (root : Root). IfSome (disk.seen new) (HasRoot root)) (ap root_by (sym c.self.view_is))
-              (put-root (disk.seen old) (disk.seen new) c.args.self.now (log_of (contents_of c.args.payloads.now))
+          subst (λ (root : Root). IfSome new.contents (HasRoot root)) (ap root_by (sym c.self.view_is))
+              (put-root old new c.args.self.now (log_of (contents_of c.args.payloads.now))
               (subst (λ (x : Seen). x.setting.start ≤ x.setting.end) c.self.view_is c.self.invariant.1) c.requires.place
               (rw size at c.in-Ok.ensures.written)),
         );
       };
       stands = λ stands.
-          subst (λ (x : Seen). Stands (g.D.Disk.seen c.append.new.disk) (g.D.Disk.image c.append.new.disk) x.setting) (sym is)
-          (put-stands (disk.seen old) (disk.seen new) (disk.image old) (disk.image new) z events c.args.payloads.now
-          (g.met.D.Disk.read_is_image c.args.disk.now) c.requires.texts stored (stored-leads events z.state valid happen c.requires.stored)
+          subst (λ (x : Seen). Stands new x.setting) (sym is)
+          (put-stands old new z events c.args.payloads.now
+          (g.met.D.Disk.lawful c.args.disk.now) c.requires.texts stored (stored-leads events z.state valid happen c.requires.stored)
           (rw size at c.in-Ok.ensures.written) c.in-Ok.ensures.settled stands);
       moments =
-          put-moments disk.seen disk.image disk.moment disk.image_since g.met.D.Disk.only_now old new z events c.args.payloads.now c.requires.texts stored
+          put-moments old new z events c.args.payloads.now c.requires.texts stored
           (rw size at c.append.ensures.any_moment);
       names = c.append.ensures.attached;
-      reported = c.in-Ok.ensures.none (λ fails. cc);
+      reported = c.in-Ok.ensures.faults;
     }
 
 pub returns-in-Err-Disk-clause-stores : goal.returns-in-Err-Disk-clause-stores
 returns-in-Err-Disk-clause-stores g c =
-    let disk = g.D.Disk in
-    let old = c.args.disk.now in
-    let new = c.append.new.disk in
+    let seen = g.D.Disk.seen in
+    let old = seen c.args.disk.now in
+    let new = seen c.append.new.disk in
     let z = c.args.self.now.setting in
     let events = settled_events c.args.settled in
     let size : c.self.inside.end ≡ z.end = ap (λ (x : Seen). x.setting.end) c.self.view_is in
@@ -119,10 +119,10 @@ returns-in-Err-Disk-clause-stores g c =
       );
       stands = λ _. tt;
       moments =
-          put-moments disk.seen disk.image disk.moment disk.image_since g.met.D.Disk.only_now old new z events c.args.payloads.now c.requires.texts stored
+          put-moments old new z events c.args.payloads.now c.requires.texts stored
           (rw size at c.append.ensures.any_moment);
       names = c.append.ensures.attached;
-      reported = (c.append.ensures.later, c.append.ensures.cause failed);
+      reported = rw failed at c.append.ensures.faults;
     }
 
 pub returns-in-Err-Full-clause-stores : goal.returns-in-Err-Full-clause-stores
@@ -136,7 +136,7 @@ returns-in-Err-Full-clause-stores g c =
     let quiet = c.append.ensures.unwritten (inl failed) in
     let same = put-seen c.args.self.now c.self.inside.machine.state c.prepare.new.self.state c.self.inside.start c.self.inside.end c.self.inside.generation c.self.inside.end c.self.inside.slot c.self.inside.broken []
     c.self.view_is (ap (λ (m : Kept). m.state) c.in_ok-prepare.ensures.ok) refl in
-    none-stored g.met.D.Disk.only_now quiet
+    none-stored (g.met.D.Disk.lawful c.args.disk.now) quiet
     (no-room c.args.payloads.now events z c.requires.some c.requires.texts (full.0 failed), (same, quiet)) refl
 
 pub returns-in-Err-Memory-clause-stores : goal.returns-in-Err-Memory-clause-stores
@@ -144,7 +144,7 @@ returns-in-Err-Memory-clause-stores g c =
     let quiet = c.append.ensures.unwritten (inr (c.in-Err-Memory.is ∙ ap (λ f. Err f) c.in-Err-Memory.field-0-is)) in
     let same = put-seen c.args.self.now c.self.inside.machine.state c.prepare.new.self.state c.self.inside.start c.self.inside.end c.self.inside.generation c.self.inside.end c.self.inside.slot c.self.inside.broken []
     c.self.view_is (ap (λ (m : Kept). m.state) c.in_ok-prepare.ensures.ok) refl in
-    none-stored g.met.D.Disk.only_now quiet (same, quiet) refl
+    none-stored (g.met.D.Disk.lawful c.args.disk.now) quiet (same, quiet) refl
 
 pub returns-in_err-prepare-clause-probes : goal.returns-in_err-prepare-clause-probes
 returns-in_err-prepare-clause-probes g c = rw (ap (λ (x : Seen). x.setting.state) c.self.view_is) at c.prepare.ensures.probes
