@@ -10,6 +10,7 @@
 
 mod bodies;
 mod faults;
+mod kinds;
 pub mod laws;
 mod lists;
 mod mounts;
@@ -18,6 +19,7 @@ mod snapshots;
 mod writing;
 
 pub use faults::CodecFault;
+pub use kinds::{PayloadKind, payload_kind};
 pub use reading::read_event;
 pub use snapshots::{read_snapshot, write_snapshot};
 pub use writing::write_event;

@@ -10,8 +10,8 @@ ghost use Rattle.event_codec.specs.declared.faults.CodecFault.TheVariants as cod
 ghost use Rattle.payload_fields.specs.Reading.{GivesField};
 
 use crate::faults::CodecFault;
+use crate::kinds::event_kind;
 use crate::lists::{docs, told};
-use crate::writing::event_kind;
 use hac_model::{Event, Kind, Mark, Version};
 use payload_fields::{Bytes, Fault, name, num, query, space, target, text};
 use std::alloc::Global;

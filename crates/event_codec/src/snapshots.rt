@@ -3,13 +3,13 @@ ghost use Rattle.std.specs.Prelude.{◌≡◌, ◌++◌, IfOk, IsTrue, OnOk};
 ghost use Rattle.std.specs.Option.{option_copied, option_map};
 ghost use Rattle.hac_model.specs.Payload.States.{is_spellable_snapshot, snapshot_field};
 ghost use Rattle.hac_model.specs.Payload.States.{snapshot_payload, snapshot_text, spelled_snapshot};
-ghost use Rattle.hac_model.specs.Payload.States.{state_kind};
 ghost use Rattle.hac_model.specs.declared.snapshots.StoredEntry.{StoredEntry};
 ghost use Rattle.event_codec.specs.Reading.{ReadsSnapshot};
 ghost use Rattle.payload_fields.specs.Reading.{GivesField};
 
 use crate::bodies::{put_stored, stored};
 use crate::faults::CodecFault;
+use crate::kinds::state_kind;
 use crate::lists::{Item, list, put_list};
 use crate::reading::bad;
 use hac_model::{Entry, Memory, Number, Snapshot, StoredEntry, Version};
@@ -28,16 +28,6 @@ pub fn write_snapshot(alloc: Global, snapshot: &Snapshot) -> Result<Vec<u8>, Mem
     put_num(&mut out, snapshot.version, snapshot.next)?;
     put_list(&mut out, snapshot.version, snapshot.entries.as_slice())?;
     Ok(out)
-}
-
-/// The kind of a payload that holds a state.
-fn state_kind(version: Version) -> u8
-    ensures { result ≡ state_kind version }
-{
-    match version {
-        Version::One => 2,
-        Version::Two => 3,
-    }
 }
 
 /// The snapshot that a payload says, of the version that the payload's kind tells. It need not be

@@ -1,9 +1,10 @@
 //! Events as the bytes of a payload.
 ghost use Rattle.std.specs.Prelude.{◌≡◌, ◌++◌, ◌∷◌, IsTrue, IfOk, OnOk};
 ghost use Rattle.hac_model.specs.Payload.Fields.{num};
-ghost use Rattle.hac_model.specs.Payload.Payloads.{event_field, event_kind, event_text};
+ghost use Rattle.hac_model.specs.Payload.Payloads.{event_field, event_text};
 ghost use Rattle.hac_model.specs.Payload.Payloads.{is_spellable, mark_field, name_field};
 
+use crate::kinds::event_kind;
 use crate::lists::{put_docs, put_told};
 use hac_model::{Event, Kind, Memory, Name, Number, Version};
 use payload_fields::{put_long, put_middle, put_num, put_numbered, put_query, put_short};
@@ -21,16 +22,6 @@ pub fn write_event(alloc: Global, version: Version, event: &Event) -> Result<Vec
     out.push(event_kind(version))?;
     put_event(&mut out, version, event)?;
     Ok(out)
-}
-
-/// The kind of a payload that holds an event.
-pub(crate) fn event_kind(version: Version) -> u8
-    ensures { result ≡ event_kind version }
-{
-    match version {
-        Version::One => 1,
-        Version::Two => 4,
-    }
 }
 
 /// Adds the kind and the fields of an event.

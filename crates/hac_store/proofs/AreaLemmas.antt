@@ -1,5 +1,8 @@
 -- Areas, as they are read from their first gate on.
 use Rattle.std.proofs.Common.{◌≡◌, ◌⊎◌, inl, inr, ℕ, ◌+◌, ◌<◌, ◌≤◌, None, Bool, true, false, if◌then◌else◌, List, length, take, Result, Ok, Err, refl, sym, ◌∙◌, ap, subst, arith}
+use Rattle.event_codec.specs.Kinds.{kind_of}
+use Rattle.event_codec.specs.declared.kinds.PayloadKind.{PayloadKind}
+use Rattle.event_codec.specs.declared.kinds.PayloadKind.TheVariants as kind
 use Rattle.hac_checkpoint.specs.Areas.{HaveSame}
 use Rattle.hac_checkpoint.specs.declared.areas.Area.{Area}
 use Rattle.hac_checkpoint.specs.declared.heads.Stop.{Stop}
@@ -9,7 +12,7 @@ use Rattle.hac_journal.specs.Appending.{ClosedAt}
 use Rattle.hac_journal.specs.Finding.{Found, Whole, Closed, Short, found_at}
 use Rattle.hac_journal.proofs.CrashLemmas.{front-less}
 use Rattle.hac_journal.proofs.LawLemmas.{closed-is-found, found-along, found-is-closed, found-is-whole}
-use Rattle.hac_model.specs.Payload.Payloads.{event_text, spelled}
+use Rattle.hac_model.specs.Payload.Payloads.{event_text}
 use Rattle.hac_model.specs.Payload.States.{restored, spelled_snapshot}
 use Rattle.hac_model.specs.Tree.{empty, root_alone}
 use Rattle.hac_model.specs.Tree.Limits.{first_passed, passed_limit}
@@ -23,17 +26,16 @@ use Rattle.hac_model.specs.declared.versions.Version.{Version}
 use Rattle.hac_model.specs.declared.versions.Version.TheVariants.{One, Two}
 use Rattle.hac_model.proofs.ValidTestLemmas.{valid-Decides}
 use Rattle.hac_model.proofs.VersionLemmas.{none-few}
-use Rattle.hac_store.specs.Held.{Log, after_first, after_payload, after_snapshot, area, area_with, first_version, go_on, is_state, log}
+use Rattle.hac_store.specs.Held.{Log, after_first, after_kind, after_snapshot, area, area_with, go_on, log}
 use Rattle.hac_store.proofs.LogLemmas.{go-parts, log-closed, log-ends, log-short, log-stored, log-valid, log-whole}
 
 pub area-found : (at : ℕ) (file : List ℕ) (found : Found) → found_at at file ≡ found → area at file ≡ area_with at file found
 unfolding area
 area-found at file found is = ap (area_with at file) is
 
--- a record that is at the place holds an event, and tells this version
+-- a record that is at the place holds an event of this version
 abbrev pub GoesOn : Version → ℕ → List ℕ → Type 0
-GoesOn version at file =
-    (payload : List ℕ) (behind : ℕ) → found_at at file ≡ Whole payload behind → (is_state payload ≡ false) × (first_version payload ≡ version)
+GoesOn version at file = (payload : List ℕ) (behind : ℕ) → found_at at file ≡ Whole payload behind → kind_of payload ≡ kind.Event version
 
 -- so it is where nothing is
 pub closed-goes : (version : Version) (at : ℕ) (file : List ℕ) → found_at at file ≡ Closed → GoesOn version at file
@@ -41,33 +43,25 @@ closed-goes version at file closed payload behind whole = let never : Closed ≡
 
 -- and where such a payload is
 pub event-goes : (version : Version) (at : ℕ) (file payload : List ℕ) (behind : ℕ) → found_at at file ≡ Whole payload behind
-    → (is_state payload ≡ false) × (first_version payload ≡ version) → GoesOn version at file
-event-goes version at file payload behind found kind other next whole =
+    → kind_of payload ≡ kind.Event version → GoesOn version at file
+event-goes version at file payload behind found event other next whole =
     let same : Whole payload behind ≡ Whole other next = sym found ∙ whole in
     let one : payload ≡ other = cc in
-    subst (λ (p : List ℕ). (is_state p ≡ false) × (first_version p ≡ version)) one kind
+    subst (λ (p : List ℕ). kind_of p ≡ kind.Event version) one event
 
 -- the payload of an event is that of no state, and tells its version
-pub event-kind : (version : Version) (event : Event) → (is_state (event_text version event) ≡ false) × (first_version (event_text version event) ≡ version)
+pub event-kind : (version : Version) (event : Event) → kind_of (event_text version event) ≡ kind.Event version
 unfolding event_text
-event-kind One event = (refl, refl)
-event-kind Two event = (refl, refl)
-
-first-event : (at : ℕ) (payload : List ℕ) → is_state payload ≡ false → after_first at payload ≡ after_payload (root_alone (first_version payload)) at (spelled (first_version payload) payload)
-first-event at payload none =
-    ap (λ (b : Bool). if b then after_snapshot at (spelled_snapshot payload) else after_payload (root_alone (first_version payload)) at (spelled (first_version payload) payload)) none
-
-first-state : (at : ℕ) (payload : List ℕ) → is_state payload ≡ true → after_first at payload ≡ after_snapshot at (spelled_snapshot payload)
-first-state at payload is =
-    ap (λ (b : Bool). if b then after_snapshot at (spelled_snapshot payload) else after_payload (root_alone (first_version payload)) at (spelled (first_version payload) payload)) is
+event-kind One event = refl
+event-kind Two event = refl
 
 -- an area that begins with an event is a log of the root alone, in the version that its payload tells
-pub area-event : (at : ℕ) (file payload : List ℕ) (behind : ℕ) → found_at at file ≡ Whole payload behind → is_state payload ≡ false
-    → area at file ≡ log (root_alone (first_version payload)) at file
-area-event at file payload behind found none =
+pub area-event : (at : ℕ) (file payload : List ℕ) (behind : ℕ) (version : Version) → found_at at file ≡ Whole payload behind → kind_of payload ≡ kind.Event version
+    → area at file ≡ log (root_alone version) at file
+area-event at file payload behind version found event =
     area-found at file (Whole payload behind) found
-    ∙ ap (λ (r : Result State Stop). go_on r (λ new. log new behind file)) (first-event at payload none)
-    ∙ sym (log-whole (root_alone (first_version payload)) at file payload behind found)
+    ∙ ap (λ (k : PayloadKind). go_on (after_kind at payload k) (λ new. log new behind file)) event
+    ∙ sym (log-whole (root_alone version) at file payload behind found)
 
 -- where no record is, it is a log of what a new store holds
 pub area-none : (at : ℕ) (file : List ℕ) → (found_at at file ≡ Closed) ⊎ (found_at at file ≡ Short) → area at file ≡ log empty at file
@@ -82,14 +76,13 @@ area-goes at file goes = by (found_at at file) refl
     by Short is = area-none at file (inr is)
     by Closed is = area-none at file (inl is)
     by (Whole payload behind) is =
-        let kind = goes payload behind is in
-        area-event at file payload behind is kind.0 ∙ ap (λ (version : Version). log (root_alone version) at file) kind.1
+        area-event at file payload behind Two is (goes payload behind is)
 
 -- an area with a whole state is a log of that
-pub area-state : (at : ℕ) (file payload : List ℕ) (behind : ℕ) → found_at at file ≡ Whole payload behind → is_state payload ≡ true →
+pub area-state : (at : ℕ) (file payload : List ℕ) (behind : ℕ) → found_at at file ≡ Whole payload behind → kind_of payload ≡ kind.State →
     area at file ≡ go_on (after_snapshot at (spelled_snapshot payload)) (λ new. log new behind file)
 area-state at file payload behind found is =
-    area-found at file (Whole payload behind) found ∙ ap (λ (r : Result State Stop). go_on r (λ new. log new behind file)) (first-state at payload is)
+    area-found at file (Whole payload behind) found ∙ ap (λ (k : PayloadKind). go_on (after_kind at payload k) (λ new. log new behind file)) is
 
 pub area-closed : (at : ℕ) (file : List ℕ) → found_at at file ≡ Closed → area at file ≡ Ok (record { state = empty; end = at })
 area-closed at file is = area-found at file Closed is
@@ -171,7 +164,7 @@ area-sound at d l is = by (found_at at d) refl
     of_log : (version : Version) → log (root_alone version) at d ≡ Ok l → IsValid l.state × (sessionless l.state ≡ l.state)
     of_log version read = (log-valid (root_alone version) at d l (alone-valid version) read, log-stored (root_alone version) at d l (alone-valid version) refl read)
 
-    of_state : (payload : List ℕ) (behind : ℕ) → found_at at d ≡ Whole payload behind → is_state payload ≡ true → IsValid l.state × (sessionless l.state ≡ l.state)
+    of_state : (payload : List ℕ) (behind : ℕ) → found_at at d ≡ Whole payload behind → kind_of payload ≡ kind.State → IsValid l.state × (sessionless l.state ≡ l.state)
     of_state payload behind found state =
         let parts = go-parts (after_snapshot at (spelled_snapshot payload)) (λ new. log new behind d) l (sym (area-state at d payload behind found state) ∙ is) in
         let sound = snapshot-sound at (spelled_snapshot payload) parts.0 parts.1 in
@@ -180,7 +173,7 @@ area-sound at d l is = by (found_at at d) refl
     by : (found : Found) → found_at at d ≡ found → IsValid l.state × (sessionless l.state ≡ l.state)
     by Short found = let never = sym (area-short at d found) ∙ is in absurd cc
     by Closed found = of_log Two (sym (area-none at d (inl found)) ∙ is)
-    by (Whole payload behind) found = elim (is_state payload) as (λ b. is_state payload ≡ b → IsValid l.state × (sessionless l.state ≡ l.state)) [
-      | true ↦ (λ state. of_state payload behind found state)
-      | false ↦ (λ event. of_log (first_version payload) (sym (area-event at d payload behind found event) ∙ is))
+    by (Whole payload behind) found = elim (kind_of payload) as (λ k. kind_of payload ≡ k → IsValid l.state × (sessionless l.state ≡ l.state)) [
+      | kind.State ↦ (λ state. of_state payload behind found state)
+      | kind.Event version ↦ (λ event. of_log version (sym (area-event at d payload behind version found event) ∙ is))
     ] refl

@@ -1,6 +1,8 @@
 -- Where an area begins, as it is read.
-use Rattle.std.proofs.Common.{◌≡◌, inl, inr, ℕ, ◌+◌, true, false, Bool, if◌then◌else◌, List, None, Some, IfErr, IfOk, IfSome, Result, Ok, Err, sym, ◌∙◌, ap, subst}
+use Rattle.std.proofs.Common.{◌≡◌, inl, inr, ℕ, ◌+◌, true, Bool, if◌then◌else◌, List, None, Some, IfErr, IfOk, IfSome, Result, Ok, Err, sym, ◌∙◌, ap, subst}
 use Rattle.std.specs.declared.option.Option.{Option}
+use Rattle.event_codec.specs.Kinds.{kind_of}
+use Rattle.event_codec.specs.declared.kinds.PayloadKind.TheVariants as kind
 use Rattle.hac_checkpoint.specs.Roots.{placed}
 use Rattle.hac_checkpoint.specs.declared.heads.Stop.{Stop}
 use Rattle.hac_checkpoint.specs.declared.heads.Stop.TheVariants as stop
@@ -15,7 +17,7 @@ use Rattle.hac_model.specs.declared.states.State.{State}
 use Rattle.hac_model.specs.declared.versions.Version.{Version}
 use Rattle.hac_model.specs.declared.versions.Version.TheVariants.{Two}
 use Rattle.hac_model.proofs.ValidTestLemmas.{valid-Decides}
-use Rattle.hac_store.specs.Held.{after_snapshot, area, first_version, go_on, is_state, log}
+use Rattle.hac_store.specs.Held.{after_snapshot, area, go_on, log}
 use Rattle.hac_store.specs.Reading.{BeginsArea, JudgesState}
 use Rattle.hac_store.specs.declared.areas.Begun.{Begun}
 use Rattle.hac_store.specs.declared.fault.StoreFault.{StoreFault}
@@ -32,7 +34,7 @@ state-read at r snapshot s read told valid =
     ∙ ap (λ (t : State). Ok t) (sym told)
 
 -- a fault of the state is a fault of its area
-pub begun-wrong : (at : ℕ) (file payload : List ℕ) (behind : ℕ) (why : StoreFault) → found_at at file ≡ Whole payload behind → is_state payload ≡ true
+pub begun-wrong : (at : ℕ) (file payload : List ℕ) (behind : ℕ) (why : StoreFault) → found_at at file ≡ Whole payload behind → kind_of payload ≡ kind.State
     → JudgesState (Err why) (after_snapshot at (spelled_snapshot payload)) → BeginsArea (Err why) file (area at file)
 begun-wrong at file payload behind fault.Disk found is judges = absurd judges
 begun-wrong at file payload behind (fault.NotStore place) found is judges =
@@ -42,7 +44,7 @@ begun-wrong at file payload behind fault.Full found is judges = absurd judges
 begun-wrong at file payload behind fault.Memory found is judges = tt
 
 -- an area with a whole state goes on behind it
-pub begun-state : (at : ℕ) (file payload : List ℕ) (behind : ℕ) (s : State) → found_at at file ≡ Whole payload behind → is_state payload ≡ true
+pub begun-state : (at : ℕ) (file payload : List ℕ) (behind : ℕ) (s : State) → found_at at file ≡ Whole payload behind → kind_of payload ≡ kind.State
     → after_snapshot at (spelled_snapshot payload) ≡ Ok s → area at file ≡ log s behind file
 begun-state at file payload behind s found is judges =
     area-state at file payload behind found is ∙ ap (λ (r : Result State Stop). go_on r (λ new. log new behind file)) judges
@@ -54,10 +56,10 @@ begun-alone : (version : Version) (at : ℕ) (file : List ℕ) (result : Result 
 begun-alone version at file (Ok begun) leads is memory = leads ∙ ap (λ (b : Begun). log b.replay b.at file) (sym is)
 begun-alone version at file (Err why) leads is memory = subst (λ (w : StoreFault). BeginsArea (Err w) file (area at file)) (sym memory) tt
 
-pub begun-event : (at : ℕ) (file payload : List ℕ) (behind : ℕ) (result : Result Begun StoreFault) → found_at at file ≡ Whole payload behind → is_state payload ≡ false
-    → IfOk result (λ begun. begun ≡ record { replay = root_alone (first_version payload); at = at })
+pub begun-event : (at : ℕ) (file payload : List ℕ) (behind : ℕ) (version : Version) (result : Result Begun StoreFault) → found_at at file ≡ Whole payload behind → kind_of payload ≡ kind.Event version
+    → IfOk result (λ begun. begun ≡ record { replay = root_alone version; at = at })
     → IfErr result (λ why. why ≡ fault.Memory) → BeginsArea result file (area at file)
-begun-event at file payload behind result found none is memory = begun-alone (first_version payload) at file result (area-event at file payload behind found none) is memory
+begun-event at file payload behind version result found event is memory = begun-alone version at file result (area-event at file payload behind version found event) is memory
 
 -- the same of a disk that tells its bytes
 pub begins-closed : (seen : Option (List ℕ)) (at : ℕ) (result : Result Begun StoreFault) → TellsAt End at seen → IfOk result (λ begun. begun ≡ record { replay = empty; at = at })

@@ -1,5 +1,5 @@
 -- What a file holds while a state is written as a new area and the root flips to it.
-use Rattle.std.proofs.Common.{◌≡◌, inl, ℕ, ◌+◌, ◌-◌, ◌<◌, ◌≤◌, ◌^◌, Bool, true, false, ◌||◌, ◌==◌, nat_lt, if◌then◌else◌}
+use Rattle.std.proofs.Common.{◌≡◌, inl, ℕ, ◌+◌, ◌-◌, ◌<◌, ◌≤◌, ◌^◌, Bool, true, false, ◌==◌, nat_lt, if◌then◌else◌}
 use Rattle.std.proofs.Common.{List, [], ◌∷◌, length, None, Some, Result, Ok, Err, refl, sym, ◌∙◌, ap, subst, arith}
 use Rattle.std.proofs.Common.{length-append}
 use Rattle.std.specs.declared.option.Option.{Option}
@@ -8,6 +8,8 @@ use Rattle.hac_disk.proofs.TornLemmas.{torn-whole}
 use Rattle.hac_journal.specs.Records.{record_of}
 use Rattle.hac_journal.proofs.LawLemmas.{closed-is-found}
 use Rattle.hac_journal.proofs.RecordLemmas.{length-log, length-record}
+use Rattle.event_codec.specs.Kinds.{is_state_kind, kind_of}
+use Rattle.event_codec.specs.declared.kinds.PayloadKind.TheVariants as kind
 use Rattle.hac_checkpoint.specs.Areas.{IsApart, area_of, place_for}
 use Rattle.hac_checkpoint.specs.Flips.{HasRoot}
 use Rattle.hac_checkpoint.specs.Roots.{root_of}
@@ -17,6 +19,7 @@ use Rattle.hac_checkpoint.specs.declared.heads.Stop.TheVariants as stop
 use Rattle.hac_checkpoint.proofs.ApartLemmas.{areas-are-found, new-areas-lie-apart}
 use Rattle.hac_checkpoint.proofs.ApartLemmas.{writes-leave-areas, writes-leave-roots}
 use Rattle.hac_checkpoint.proofs.HeadLemmas.{roots-start-behind}
+use Rattle.hac_model.specs.Payload.Payloads.{event_kind}
 use Rattle.hac_model.specs.Payload.States.{snapshot_of, snapshot_text, spelled_snapshot, state_kind}
 use Rattle.hac_model.specs.Run.Play.{Setting, stored_setting}
 use Rattle.hac_model.specs.Tree.{raised}
@@ -36,7 +39,7 @@ use Rattle.event_codec.proofs.SnapshotLemmas.{snapshot_is_read}
 use Rattle.snapshots.proofs.SnapshotLemmas.{snapshots-restore}
 use Rattle.hac_model.specs.Run.Checkpoints.{next_place, place_of, state_text}
 use Rattle.hac_store.specs.Checkpointing.{HoldsState, moved_to}
-use Rattle.hac_store.specs.Held.{Log, after_snapshot, area, go_on, held, is_state, log}
+use Rattle.hac_store.specs.Held.{Log, after_snapshot, area, go_on, held, log}
 use Rattle.hac_store.specs.Stores.{Seen, root_by}
 use Rattle.hac_store.proofs.AreaLemmas.{area-ends, area-state}
 use Rattle.hac_store.proofs.HeldLemmas.{held-area, held-parts, setting_of}
@@ -44,11 +47,11 @@ use Rattle.hac_store.proofs.LogLemmas.{log-closed}
 
 -- ---- the new area
 
-state-is_state : (s : State) → is_state (state_text s) ≡ true
+state-kind : (s : State) → kind_of (state_text s) ≡ kind.State
 unfolding snapshot_of snapshot_text
-state-is_state s = by s.version
+state-kind s = by s.version
   where
-    by : (version : Version) → (state_kind version == 2 || state_kind version == 3) ≡ true
+    by : (version : Version) → (if is_state_kind (state_kind version) then kind.State else kind.Event (if state_kind version == event_kind One then One else Two)) ≡ kind.State
     by One = refl
     by Two = refl
 
@@ -75,7 +78,7 @@ area-written s at file valid starts =
     let new = overlaid at (area_of payload) file in
     let end = at + 5 + length payload in
     let found = areas-are-found at payload file starts (states-short s valid) in
-    area-state at new payload end found.0 (state-is_state (raised s))
+    area-state at new payload end found.0 (state-kind (raised s))
     ∙ ap (λ (r : Result State Stop). go_on r (λ next. log next end new)) (state-after at s valid)
     ∙ log-closed (stored s) end new (closed-is-found end new found.1)
 

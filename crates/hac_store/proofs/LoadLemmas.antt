@@ -1,8 +1,10 @@
 -- How many questions reading a store may take, record by record.
-use Rattle.std.proofs.Common.{◌≡◌, ℕ, zero, suc, ◌+◌, ◌≤◌, Bool, true, false, if◌then◌else◌, List, length, None, Some, IfOk, IfSome, Result, Ok, Err, refl, sym, ◌∙◌, ap, arith, Vec}
+use Rattle.std.proofs.Common.{◌≡◌, ℕ, zero, suc, ◌+◌, ◌≤◌, List, length, None, Some, IfOk, IfSome, Result, Ok, Err, refl, sym, ◌∙◌, ap, arith, Vec}
 use Rattle.std.proofs.lemmas.List.{drop_all}
 use Rattle.std.specs.declared.alloc.Global.{Global}
 use Rattle.std.specs.declared.option.Option.{Option}
+use Rattle.event_codec.specs.Kinds.{kind_of}
+use Rattle.event_codec.specs.declared.kinds.PayloadKind.TheVariants as kind
 use Rattle.hac_checkpoint.specs.Roots.{root_of, IsRootSeen}
 use Rattle.hac_checkpoint.specs.declared.heads.Root.{Root}
 use Rattle.hac_checkpoint.specs.declared.heads.Stop.{Stop}
@@ -16,8 +18,8 @@ use Rattle.hac_model.specs.Tree.Costs.{opening}
 use Rattle.hac_model.specs.declared.states.State.{State}
 use Rattle.hac_model.specs.declared.versions.Version.{Version}
 use Rattle.hac_model.specs.declared.versions.Version.TheVariants.{Two}
-use Rattle.hac_store.specs.Held.{after_payload, after_snapshot, first_version, is_state}
-use Rattle.hac_store.specs.Loading.{judging, loading, loading_area, loading_found, loading_root, reading_on, replaying, replaying_found, replaying_from}
+use Rattle.hac_store.specs.Held.{after_payload, after_snapshot}
+use Rattle.hac_store.specs.Loading.{judging, loading, loading_area, loading_found, loading_kind, loading_root, reading_on, replaying, replaying_found, replaying_from}
 use Rattle.hac_store.specs.declared.areas.Begun.{Begun}
 use Rattle.hac_store.specs.declared.fault.StoreFault.{StoreFault}
 
@@ -119,19 +121,16 @@ loads-alone : (version : Version) (at : ℕ) (file : List ℕ) (result : Result 
 loads-alone version at file (Ok begun) leads is = leads ∙ ap (λ (b : Begun). replaying b.replay b.at file) (sym is)
 loads-alone version at file (Err why) leads is = tt
 
-pub loads-event : (at : ℕ) (file payload : List ℕ) (behind : ℕ) (result : Result Begun StoreFault) → found_at at file ≡ Whole payload behind → is_state payload ≡ false
-    → IfOk result (λ begun. begun ≡ record { replay = root_alone (first_version payload); at = at }) → Continues result at file
-loads-event at file payload behind result found none is =
-    loads-alone (first_version payload) at file result
-    (ap (loading_found at file) found
-    ∙ ap (λ (b : Bool). if b then reading_on (after_snapshot at (spelled_snapshot payload)) (λ new. replaying new behind file) else replaying (root_alone (first_version payload)) at file) none)
-    is
+pub loads-event : (at : ℕ) (file payload : List ℕ) (behind : ℕ) (version : Version) (result : Result Begun StoreFault) → found_at at file ≡ Whole payload behind → kind_of payload ≡ kind.Event version
+    → IfOk result (λ begun. begun ≡ record { replay = root_alone version; at = at }) → Continues result at file
+loads-event at file payload behind version result found event is =
+    loads-alone version at file result (ap (loading_found at file) found ∙ ap (loading_kind at file payload behind) event) is
 
-pub loads-state : (at : ℕ) (file payload : List ℕ) (behind : ℕ) (s : State) → found_at at file ≡ Whole payload behind → is_state payload ≡ true
+pub loads-state : (at : ℕ) (file payload : List ℕ) (behind : ℕ) (s : State) → found_at at file ≡ Whole payload behind → kind_of payload ≡ kind.State
     → after_snapshot at (spelled_snapshot payload) ≡ Ok s → loading_area at file ≡ replaying s behind file
 loads-state at file payload behind s found whole is =
     ap (loading_found at file) found
-    ∙ ap (λ (b : Bool). if b then reading_on (after_snapshot at (spelled_snapshot payload)) (λ new. replaying new behind file) else replaying (root_alone (first_version payload)) at file) whole
+    ∙ ap (loading_kind at file payload behind) whole
     ∙ ap (λ (r : Result State Stop). reading_on r (λ new. replaying new behind file)) is
 
 pub loads-closed : (seen : Option (List ℕ)) (at : ℕ) (result : Result Begun StoreFault) → TellsAt End at seen → IfOk result (λ begun. begun ≡ record { replay = empty; at = at })

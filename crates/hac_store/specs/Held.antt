@@ -1,5 +1,8 @@
 -- What an image of a store holds: the tree to which its live area leads, or the place of the first wrong byte.
-use Rattle.std.specs.Prelude.{ℕ, zero, suc, ◌+◌, ◌==◌, ◌||◌, if◌then◌else◌, Bool, false, List, [], ◌∷◌, length, Result, Ok, Err}
+use Rattle.std.specs.Prelude.{ℕ, zero, suc, ◌+◌, if◌then◌else◌, List, length, Result, Ok, Err}
+use Rattle.event_codec.specs.Kinds.{kind_of}
+use Rattle.event_codec.specs.declared.kinds.PayloadKind.{PayloadKind}
+use Rattle.event_codec.specs.declared.kinds.PayloadKind.TheVariants as kind
 use Rattle.hac_checkpoint.specs.Roots.{placed, root_of}
 use Rattle.hac_checkpoint.specs.declared.heads.Root.{Root}
 use Rattle.hac_checkpoint.specs.declared.heads.Stop.{Stop}
@@ -14,8 +17,6 @@ use Rattle.hac_model.specs.Tree.ValidTest.{is_valid}
 use Rattle.hac_model.specs.declared.events.Event.{Event}
 use Rattle.hac_model.specs.declared.snapshots.Snapshot.{Snapshot}
 use Rattle.hac_model.specs.declared.states.State.{State}
-use Rattle.hac_model.specs.declared.versions.Version.{Version}
-use Rattle.hac_model.specs.declared.versions.Version.TheVariants.{One, Two}
 
 -- what a payload makes of the state so far, given the place of its gate. It is wrong where it breaks the grammar, and
 -- at its first byte where its event can't happen.
@@ -49,27 +50,20 @@ log_from (suc n) s at file = after_found s at (found_at at file) (λ new behind.
 abbrev pub log : State → ℕ → List ℕ → Result Log Stop
 log s at file = log_from (length file) s at file
 
--- the payload is that of a whole state, by the byte of its kind
-abbrev pub is_state : List ℕ → Bool
-is_state [] = false
-is_state (kind ∷ rest) = kind == 2 || kind == 3
-
--- the version of an area whose first record holds an event, by the byte of its kind
-abbrev pub first_version : List ℕ → Version
-first_version [] = Two
-first_version (kind ∷ rest) = if kind == 1 then One else Two
-
 -- the state that a payload holds, given the place of its gate. It is wrong where it breaks the grammar, and at its first
 -- byte where no such state can be.
 abbrev pub after_snapshot : ℕ → Result Snapshot ℕ → Result State Stop
 after_snapshot at (Err offset) = Err (stop.BadAt (at + 5 + offset))
 after_snapshot at (Ok snapshot) = if is_valid (restored snapshot) then Ok (restored snapshot) else Err (stop.BadAt (at + 5))
 
--- the state behind the first record of an area: a whole state, or what an event makes of the root alone
+-- the state behind the first record of an area: a whole state, or what an event makes of the root alone, by the kind of
+-- its payload
+abbrev pub after_kind : ℕ → List ℕ → PayloadKind → Result State Stop
+after_kind at payload kind.State = after_snapshot at (spelled_snapshot payload)
+after_kind at payload (kind.Event version) = after_payload (root_alone version) at (spelled version payload)
+
 abbrev pub after_first : ℕ → List ℕ → Result State Stop
-after_first at payload =
-    if is_state payload then after_snapshot at (spelled_snapshot payload)
-    else after_payload (root_alone (first_version payload)) at (spelled (first_version payload) payload)
+after_first at payload = after_kind at payload (kind_of payload)
 
 -- what an area holds, given what is found at its first gate: what a new store holds, where it has no record
 abbrev pub area_with : ℕ → List ℕ → Found → Result Log Stop

@@ -1,5 +1,8 @@
 -- How many questions for terms reading a store may take.
-use Rattle.std.specs.Prelude.{ℕ, zero, suc, ◌+◌, if◌then◌else◌, List, length, Result, Ok, Err}
+use Rattle.std.specs.Prelude.{ℕ, zero, suc, ◌+◌, List, length, Result, Ok, Err}
+use Rattle.event_codec.specs.Kinds.{kind_of}
+use Rattle.event_codec.specs.declared.kinds.PayloadKind.{PayloadKind}
+use Rattle.event_codec.specs.declared.kinds.PayloadKind.TheVariants as kind
 use Rattle.hac_checkpoint.specs.Roots.{root_of}
 use Rattle.hac_checkpoint.specs.declared.heads.Root.{Root}
 use Rattle.hac_checkpoint.specs.declared.heads.Stop.{Stop}
@@ -11,7 +14,7 @@ use Rattle.hac_model.specs.Tree.Costs.{opening, weight}
 use Rattle.hac_model.specs.declared.events.Event.{Event}
 use Rattle.hac_model.specs.declared.states.State.{State}
 use Rattle.hac_model.specs.declared.versions.Version.TheVariants.{Two}
-use Rattle.hac_store.specs.Held.{after_payload, after_snapshot, first_version, is_state}
+use Rattle.hac_store.specs.Held.{after_payload, after_snapshot}
 
 -- an event may prohibit an item that its directory finds: that item is judged there, by each query once at most
 abbrev pub judging : State → Result Event ℕ → ℕ
@@ -39,14 +42,17 @@ replaying_from (suc n) s at file = replaying_found s at (found_at at file) (λ n
 abbrev pub replaying : State → ℕ → List ℕ → ℕ
 replaying s at file = replaying_from (length file) s at file
 
--- an area that begins at a gate, given what is found there: where its first record is no whole state, the log is all of
--- it, from the root alone
+-- an area whose first record has this payload, of this kind: where that is no whole state, the log is all of the area,
+-- from the root alone
+abbrev pub loading_kind : ℕ → List ℕ → List ℕ → ℕ → PayloadKind → ℕ
+loading_kind at file payload behind kind.State = reading_on (after_snapshot at (spelled_snapshot payload)) (λ new. replaying new behind file)
+loading_kind at file payload behind (kind.Event version) = replaying (root_alone version) at file
+
+-- an area that begins at a gate, given what is found there
 abbrev pub loading_found : ℕ → List ℕ → Found → ℕ
 loading_found at file Short = 0
 loading_found at file Closed = replaying (root_alone Two) at file
-loading_found at file (Whole payload behind) =
-    if is_state payload then reading_on (after_snapshot at (spelled_snapshot payload)) (λ new. replaying new behind file)
-    else replaying (root_alone (first_version payload)) at file
+loading_found at file (Whole payload behind) = loading_kind at file payload behind (kind_of payload)
 
 abbrev pub loading_area : ℕ → List ℕ → ℕ
 loading_area at file = loading_found at file (found_at at file)

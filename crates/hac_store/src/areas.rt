@@ -7,12 +7,12 @@ ghost use Rattle.hac_model.specs.Payload.States.{spelled_snapshot};
 ghost use Rattle.hac_model.specs.Tree.{root_alone};
 ghost use Rattle.hac_outside.specs.Causes.{ReportsFault};
 ghost use Rattle.hac_store.specs.Faults.{is_disk_fault};
-ghost use Rattle.hac_store.specs.Held.{after_snapshot, area, first_version, is_state};
+ghost use Rattle.hac_store.specs.Held.{after_snapshot, area};
 ghost use Rattle.hac_store.specs.Loading.{loading_area, replaying};
 ghost use Rattle.hac_store.specs.Reading.{BeginsArea, JudgesState};
 
 use crate::fault::StoreFault;
-use event_codec::{CodecFault, read_snapshot};
+use event_codec::{CodecFault, PayloadKind, payload_kind, read_snapshot};
 use hac_core::{LoadFault, Replay};
 use hac_disk::Disk;
 use hac_journal::{Next, next};
@@ -68,28 +68,12 @@ fn begin_behind(alloc: Global, start: u64, payload: &[u8], next: u64) -> Result<
     ensures kind { (result ≡ Err StoreFault.AlreadyStore → ⊥) × (result ≡ Err StoreFault.Full → ⊥)
         × (result ≡ Err StoreFault.Disk → ⊥) }
 {
-    if is_state(payload) {
-        let replay = read_state(alloc, start, payload)?;
-        Ok(Begun { replay, at: next })
-    } else {
-        begin_empty(alloc, first_version(payload), start)
-    }
-}
-
-// Whether a payload is that of a whole state.
-fn is_state(payload: &[u8]) -> bool
-    ensures { result ≡ is_state payload.now }
-{
-    matches!(payload.first(), Some(&(2 | 3)))
-}
-
-// The version of an area whose first record holds an event.
-fn first_version(payload: &[u8]) -> Version
-    ensures { result ≡ first_version payload.now }
-{
-    match payload.first() {
-        Some(&1) => Version::One,
-        _ => Version::Two,
+    match payload_kind(payload) {
+        PayloadKind::State => {
+            let replay = read_state(alloc, start, payload)?;
+            Ok(Begun { replay, at: next })
+        }
+        PayloadKind::Event(version) => begin_empty(alloc, version, start),
     }
 }
 
