@@ -68,6 +68,7 @@ pub fn open_store<D: Disk, L: Ledger>(
 
 // The same answer with the fault of a store as a status.
 fn opening_result(opened: Result<Store, StoreFault>) -> Result<Store, Status>
+    requires { opened ≡ Err StoreFault.Full → ⊥ }
     ensures { result ≡ opening_result opened }
 {
     match opened {

@@ -88,15 +88,17 @@ impl From<Memory> for Status {
     }
 }
 
-/// The status of a run whose store failed. A store that is full has a reply, and no store is full
-/// as it is opened.
+/// The status of a run whose store failed. Where a store is full this is no status: there it has a
+/// reply, and no store is full as it is opened.
 pub(crate) fn store_status(fault: StoreFault) -> Status
+    requires { fault ≡ StoreFault.Full → ⊥ }
     ensures { result ≡ store_status fault }
 {
     match fault {
         StoreFault::Disk => Status::DiskFault,
         StoreFault::NotStore { at } => Status::NotStore { at },
         StoreFault::AlreadyStore => Status::AlreadyStore,
-        StoreFault::Full | StoreFault::Memory => Status::Memory,
+        StoreFault::Memory => Status::Memory,
+        StoreFault::Full => unreachable!(),
     }
 }
