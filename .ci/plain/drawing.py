@@ -1,6 +1,6 @@
 """Scripts that are drawn by chance, with an eye on what stands in the tree, so that most of their commands succeed."""
 
-WORDS = ["w0", "w1", "w2", "W3", "w10", "x\xe9", "y"]
+WORDS = ["w0", "w1", "w2", "W02", "w10", "x\xe9", "y"]
 NAMES = ["a", "b", "c", "d e", "e}", "f\\", "longlonglong"]
 ODD_PATHS = ["", "/\x01", "/" + "n" * 256, "/" + "n" * 255, "//", "/.", "..", "/a//b/"]
 ODD_TEXTS = ["\\n", "\\t", "\\\\", "\\x41", "\\x7f", "\\x00", "\\q", "\\x4", " ", "-w1", "w2w3"]
