@@ -1,13 +1,14 @@
 -- What a run promises. Most of it depends on the script, which its source may tell.
-use Rattle.std.specs.Prelude.{◌≡◌, ◌⊎◌, ℕ, ◌+◌, ◌<◌, ◌≤◌, ⊤, Bool, true, false, List, [], ◌++◌, length, take, drop, codes, Option, None, Some, Result, IfOk, IfErr, OnOk}
+use Rattle.std.specs.Prelude.{◌≡◌, ◌⊎◌, ℕ, ◌+◌, ◌<◌, ◌≤◌, ⊤, Bool, true, false, List, [], ◌++◌, length, map, take, drop, codes, Option, None, Some, Result, IfOk, IfErr, OnOk}
 use Rattle.std.specs.Option.{IfSome}
+use Rattle.std.specs.Prelude.{String, string_bytes}
 use Rattle.std.specs.Io.KnownBytes.{Appends}
 use Rattle.hac_outside.specs.Causes.{Rose, ReportsFault}
 use Rattle.hac_outside.specs.Known.{Known}
 use Rattle.hac_outside.specs.Seen.{SourceSeen, SinkSeen}
 use Rattle.hac_disk.specs.Images.{IsSettled, LeavesOnly}
 use Rattle.hac_disk.specs.Seen.{DiskSeen}
-use Rattle.hac_model.specs.Script.CommandLine.{Options}
+use Rattle.hac_model.specs.Script.CommandLine.{Options, options}
 use Rattle.hac_model.specs.Run.Costs.{lines_cost}
 use Rattle.hac_model.specs.Run.Play.{AreAskable, Given, Setting, Turn, all_events, given_behind, has_refusal, left_by, play, stored_setting, turns}
 use Rattle.hac_model.specs.Tree.Sessions.{stored}
@@ -39,6 +40,10 @@ outside source sink probes = record { source = source; sink = sink; probes = pro
 -- the same once a store is open, where opening it may take so many questions
 abbrev pub once_open : ℕ → Outside → Outside
 once_open opening before = record before { probes = before.probes + opening }
+
+-- what the words of the program ask for, if they are words that it takes
+abbrev pub options_in : {Z : Type 0} → List (String Z) → Option Options
+options_in words = options (map string_bytes words)
 
 -- what is written where the words of the program are none that it takes
 abbrev pub usage_line : List ℕ

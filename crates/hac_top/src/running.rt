@@ -1,11 +1,9 @@
 //! The run: the spaces are attached, the store is opened, and the script that is read, or one that
 //! is drawn, is played on it.
 ghost use Rattle.std.specs.Prelude.{◌≡◌, ◌≤◌, ◌+◌, ◌⊎◌, ⊤, [], true, false, IfErr, IfSome};
-ghost use Rattle.std.specs.Prelude.{None, Some, map};
-ghost use Rattle.std.specs.Prelude.{string_bytes};
+ghost use Rattle.std.specs.Prelude.{None, Some};
 ghost use Rattle.std.specs.Io.KnownBytes.{Appends};
 ghost use Rattle.hac_disk.specs.Images.{IsQuiet};
-ghost use Rattle.hac_model.specs.Script.CommandLine.{options};
 ghost use Rattle.hac_outside.specs.Causes.{ReportsFault};
 ghost use Rattle.hac_store.specs.Held.{held};
 ghost use Rattle.hac_top.specs.Asking.{StayAttached};
@@ -15,7 +13,7 @@ ghost use Rattle.hac_top.specs.Ends.{IsStoreStatus, is_bad_space, is_disk_fault}
 ghost use Rattle.hac_top.specs.Ends.{is_write_fault};
 ghost use Rattle.hac_top.specs.Making.{IfMakes, Makes, RunsMade};
 ghost use Rattle.hac_top.specs.Run.{AppendsSome, Ends, EndsSo, IfPlays, IfUnopened, RefusesWords};
-ghost use Rattle.hac_top.specs.Run.{RunsFrom, outside, usage_line};
+ghost use Rattle.hac_top.specs.Run.{RunsFrom, options_in, outside, usage_line};
 ghost use Rattle.hac_top.specs.Spaces.{CanAttach, LeavesSpaces};
 ghost use Rattle.command_line.specs.Words.{asked_of};
 
@@ -63,15 +61,15 @@ pub fn run<S: Source, K: Sink, D: Disk, P: Spaces, L: Ledger>(
     requires unattached { (P.seen spaces.old).attached ≡ [] }
 
     // Faulty command lines are refused.
-    ensures usage { result ≡ Status.Usage → options (map string_bytes words.now) ≡ None }
-    ensures words { options (map string_bytes words.now) ≡ None →
+    ensures usage { result ≡ Status.Usage → options_in words.now ≡ None }
+    ensures words { options_in words.now ≡ None →
         RefusesWords result (outside (S.seen input.old) (K.seen output.old) probes.old)
         (outside (S.seen input.new) (K.seen output.new) probes.new) × (disk.new ≡ disk.old) ×
         (spaces.new ≡ spaces.old) }
 
     // Each space that the words name is attached, with the documents of its file, and is only asked
     // since. Where one can't be, it says which and why, and does nothing else.
-    ensures spaces { IfSome (options (map string_bytes words.now))
+    ensures spaces { IfSome (options_in words.now)
         (λ asked. LeavesSpaces result asked.spaces (P.seen spaces.old) (P.seen spaces.new)) }
     ensures bad_space { is_bad_space result ≡ true →
         (input.new ≡ input.old) × (output.new ≡ output.old) × (disk.new ≡ disk.old) ×
@@ -81,7 +79,7 @@ pub fn run<S: Source, K: Sink, D: Disk, P: Spaces, L: Ledger>(
     // the faults that its commands met. A crash at any moment leaves that tree after some of the
     // events, at the end those of what was answered, and without a fault the script is played. No
     // more terms are asked of items than opening the store may take, and each line since.
-    ensures ran { IfPlays (options (map string_bytes words.now)) (λ asked. RunsFrom
+    ensures ran { IfPlays (options_in words.now) (λ asked. RunsFrom
         (D.seen disk.old) (D.seen disk.new) (P.seen spaces.old) (P.seen spaces.new) asked
         (CanAttach asked.spaces (P.seen spaces.old) (P.seen spaces.new))
         (outside (S.seen input.old) (K.seen output.old) probes.old)
@@ -89,7 +87,7 @@ pub fn run<S: Source, K: Sink, D: Disk, P: Spaces, L: Ledger>(
 
     // Where the script is to be drawn, nothing is read, and the same is true of that script, which
     // is played from a source and to a sink of its own. Then the reply to `counts` is written.
-    ensures made { IfMakes (options (map string_bytes words.now)) (λ asked number. Makes number
+    ensures made { IfMakes (options_in words.now) (λ asked number. Makes number
         (outside (S.seen input.old) (K.seen output.old) probes.old)
         (outside (S.seen input.new) (K.seen output.new) probes.new)
         (RunsMade (D.seen disk.old) (D.seen disk.new) (P.seen spaces.old) (P.seen spaces.new) asked
@@ -98,20 +96,20 @@ pub fn run<S: Source, K: Sink, D: Disk, P: Spaces, L: Ledger>(
 
     // Where the file holds no store, or one though a new one was asked for, it says so and does
     // nothing else.
-    ensures unopened { IfSome (options (map string_bytes words.now))
+    ensures unopened { IfSome (options_in words.now)
         (λ asked. IfSome (D.seen disk.old).contents (λ file. IfErr
         (opening_outcome asked.fresh (held file)) (λ wanted.
         EndsSo wanted result × IsQuiet (D.seen disk.old) (D.seen disk.new) ×
         (input.new ≡ input.old) × (output.new ≡ output.old)))) }
-    ensures unopened_asks { IfSome (options (map string_bytes words.now))
+    ensures unopened_asks { IfSome (options_in words.now)
         (λ asked. IfUnopened asked.fresh (D.seen disk.old).contents
         (λ opening. probes.new ≤ probes.old + opening)) }
-    ensures file { IfSome (options (map string_bytes words.now))
+    ensures file { IfSome (options_in words.now)
         (λ asked. IfSome (D.seen disk.old).contents (λ file. IsOfFile result →
         opening_outcome asked.fresh (held file) ≡ Err result)) }
 
     // The disk is attached once, by the name that the words give, unless the run ends before.
-    ensures attached { IfSome (options (map string_bytes words.now))
+    ensures attached { IfSome (options_in words.now)
         (λ asked. LeavesAttached result (D.seen disk.old).attached asked
         (D.seen disk.new).attached) }
 
