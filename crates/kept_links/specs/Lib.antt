@@ -2,3 +2,4 @@ pub mod Kept
 pub mod Tasks
 pub mod Items
 pub mod Coming
+pub mod Transition

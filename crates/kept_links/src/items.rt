@@ -4,15 +4,16 @@ ghost use Rattle.std.specs.Prelude.{◌≡◌, ◌==◌, ◌&&◌, ◌||◌, ◌
 ghost use Rattle.std.specs.Prelude.{IfOk, IsTrue, OnOk, if◌then◌else◌};
 ghost use Rattle.std.specs.Option.{option_map_or};
 ghost use Rattle.hac_model.specs.Tree.{is_directory_at, is_live};
-ghost use Rattle.hac_model.specs.Tree.Events.{accepted, apply, is_inside, next_dirty};
+ghost use Rattle.hac_model.specs.Tree.Events.{apply, is_inside, next_dirty};
 ghost use Rattle.hac_model.specs.Tree.Links.{is_item, is_semantic};
 ghost use Rattle.hac_model.specs.Tree.Mounting.{is_document_of};
 ghost use Rattle.hac_model.specs.Tree.Touched.{begins, is_the, touched, touches};
 ghost use Rattle.kept_links.specs.Items.{is_other, is_passed_over, numbers_around, others};
 ghost use Rattle.kept_links.specs.Items.{reach_of};
+ghost use Rattle.kept_links.specs.Transition.{IsTransition, before, event_of};
 
 use crate::lookups::{is_directory, is_inside, is_semantic};
-use crate::outlook::Outlook;
+use crate::transition::Transition;
 use hac_model::{Event, Mark, Memory, Number};
 use kept_state::KeptState;
 use reeval::Layout;
@@ -27,25 +28,6 @@ pub(crate) enum Reach {
     One(Number),
     /// It may touch any.
     Any,
-}
-
-/// The items that the event touches, in order of number.
-pub(crate) fn touched_items(
-    alloc: Global,
-    kept: &KeptState,
-    outlook: &Outlook<'_>,
-    event: &Event,
-) -> Result<Vec<Number>, Memory>
-    requires accepted { IsTrue (accepted kept.now.state event.now) }
-    requires after { outlook.now ≡ apply kept.now.state event.now }
-    ensures { IfOk result (λ items. items.items ≡ touched kept.now.state event.now) }
-{
-    kept.know_valid();
-    match reach_of(kept, event) {
-        Reach::Nothing => Ok(Vec::new(alloc)),
-        Reach::One(item) => touched_of_one(alloc, kept, outlook, event, item),
-        Reach::Any => touched_of_all(alloc, kept, outlook, event),
-    }
 }
 
 /// The items that the event may touch.
@@ -86,161 +68,150 @@ fn reach_of_step(kept: &KeptState) -> Reach
     }
 }
 
-/// The same of an event that touches no more than one item. It goes over no others.
-fn touched_of_one(
-    alloc: Global,
-    kept: &KeptState,
-    outlook: &Outlook<'_>,
-    event: &Event,
-    item: Number,
-) -> Result<Vec<Number>, Memory>
-    requires accepted { IsTrue (accepted kept.now.state event.now) }
-    requires after { outlook.now ≡ apply kept.now.state event.now }
-    requires reach { reach_of kept.now.state event.now ≡ Reach.One item }
-    ensures { IfOk result (λ items. items.items ≡ touched kept.now.state event.now) }
-{
-    kept.know_valid();
-    let mut items = Vec::new(alloc);
-    if outlook.next_number() <= item {
-        return Ok(items);
+impl Transition<'_> {
+    /// The items that the event touches, in order of number.
+    pub(crate) fn touched_items(&self, alloc: Global) -> Result<Vec<Number>, Memory>
+        requires { IsTransition self.now }
+        ensures { IfOk result (λ items. items.items ≡ touched (before self.now) (event_of self.now)) }
+    {
+        self.before.know_valid();
+        match reach_of(self.before, self.event) {
+            Reach::Nothing => Ok(Vec::new(alloc)),
+            Reach::One(item) => self.touched_of_one(alloc, item),
+            Reach::Any => self.touched_of_all(alloc),
+        }
     }
-    push_touched(&mut items, kept, outlook, event, item)?;
-    Ok(items)
-}
 
-/// The same of an event that may touch any item.
-fn touched_of_all(
-    alloc: Global,
-    kept: &KeptState,
-    outlook: &Outlook<'_>,
-    event: &Event,
-) -> Result<Vec<Number>, Memory>
-    requires accepted { IsTrue (accepted kept.now.state event.now) }
-    requires after { outlook.now ≡ apply kept.now.state event.now }
-    requires reach { reach_of kept.now.state event.now ≡ Reach.Any }
-    ensures { IfOk result (λ items. items.items ≡ touched kept.now.state event.now) }
-{
-    kept.know_valid();
-    let mut items = Vec::new(alloc);
-    for number in numbers_around(alloc, kept, outlook, event)? {
-        push_touched(&mut items, kept, outlook, event, number)?;
+    /// The same of an event that touches no more than one item. It goes over no others.
+    fn touched_of_one(&self, alloc: Global, item: Number) -> Result<Vec<Number>, Memory>
+        requires transition { IsTransition self.now }
+        requires reach { reach_of (before self.now) (event_of self.now) ≡ Reach.One item }
+        ensures { IfOk result (λ items. items.items ≡ touched (before self.now) (event_of self.now)) }
+    {
+        self.before.know_valid();
+        let mut items = Vec::new(alloc);
+        if self.after.next_number() <= item {
+            return Ok(items);
+        }
+        self.push_touched(&mut items, item)?;
+        Ok(items)
     }
-    Ok(items)
-}
 
-/// The numbers of the entries, and those that the event gives, in order.
-fn numbers_around(
-    alloc: Global,
-    kept: &KeptState,
-    outlook: &Outlook<'_>,
-    event: &Event,
-) -> Result<Vec<Number>, Memory>
-    requires { outlook.now ≡ apply kept.now.state event.now }
-    ensures { IfOk result (λ numbers. numbers.items
-        ≡ numbers_around kept.now.state (apply kept.now.state event.now)) }
-{
-    let mut numbers = kept.numbers(alloc)?;
-    for number in next_number(kept).get()..outlook.next_number().get() {
-        numbers.push(Number::new(number))?;
+    /// The same of an event that may touch any item.
+    fn touched_of_all(&self, alloc: Global) -> Result<Vec<Number>, Memory>
+        requires transition { IsTransition self.now }
+        requires reach { reach_of (before self.now) (event_of self.now) ≡ Reach.Any }
+        ensures { IfOk result (λ items. items.items ≡ touched (before self.now) (event_of self.now)) }
+    {
+        self.before.know_valid();
+        let mut items = Vec::new(alloc);
+        for number in self.numbers_around(alloc)? {
+            self.push_touched(&mut items, number)?;
+        }
+        Ok(items)
     }
-    Ok(numbers)
-}
 
-/// Adds an item to others, if the event touches it.
-fn push_touched(
-    items: &mut Vec<Number>,
-    kept: &KeptState,
-    outlook: &Outlook<'_>,
-    event: &Event,
-    item: Number,
-) -> Result<(), Memory>
-    requires accepted { IsTrue (accepted kept.now.state event.now) }
-    requires after { outlook.now ≡ apply kept.now.state event.now }
-    ensures { OnOk result (items.new.items ≡ items.old.items
-        ++ (if touches kept.now.state event.now item then item ∷ [] else [])) }
-{
-    if touches(kept, outlook, event, item) {
-        items.push(item)?;
+    /// The numbers of the entries, and those that the event gives, in order.
+    fn numbers_around(&self, alloc: Global) -> Result<Vec<Number>, Memory>
+        requires { IsTransition self.now }
+        ensures { IfOk result (λ numbers. numbers.items
+            ≡ numbers_around (before self.now) (apply (before self.now) (event_of self.now))) }
+    {
+        let mut numbers = self.before.numbers(alloc)?;
+        for number in next_number(self.before).get()..self.after.next_number().get() {
+            numbers.push(Number::new(number))?;
+        }
+        Ok(numbers)
     }
-    Ok(())
-}
 
-/// The items that the event neither touches nor passes over, in order of number.
-pub(crate) fn other_items(
-    alloc: Global,
-    kept: &KeptState,
-    outlook: &Outlook<'_>,
-    event: &Event,
-) -> Result<Vec<Number>, Memory>
-    requires accepted { IsTrue (accepted kept.now.state event.now) }
-    requires after { outlook.now ≡ apply kept.now.state event.now }
-    ensures { IfOk result (λ items. items.items ≡ others kept.now.state event.now) }
-{
-    kept.know_valid();
-    let mut items = Vec::new(alloc);
-    for number in numbers_around(alloc, kept, outlook, event)? {
-        push_other(&mut items, kept, outlook, event, number)?;
+    /// Adds an item to others, if the event touches it.
+    fn push_touched(&self, items: &mut Vec<Number>, item: Number) -> Result<(), Memory>
+        requires { IsTransition self.now }
+        ensures { OnOk result (items.new.items ≡ items.old.items
+            ++ (if touches (before self.now) (event_of self.now) item then item ∷ [] else [])) }
+    {
+        if self.touches(item) {
+            items.push(item)?;
+        }
+        Ok(())
     }
-    Ok(items)
-}
 
-/// Adds an item to others, if the event neither touches it nor passes it over.
-fn push_other(
-    items: &mut Vec<Number>,
-    kept: &KeptState,
-    outlook: &Outlook<'_>,
-    event: &Event,
-    item: Number,
-) -> Result<(), Memory>
-    requires accepted { IsTrue (accepted kept.now.state event.now) }
-    requires after { outlook.now ≡ apply kept.now.state event.now }
-    ensures { OnOk result (items.new.items ≡ items.old.items
-        ++ (if is_other kept.now.state event.now item then item ∷ [] else [])) }
-{
-    if is_other(kept, outlook, event, item) {
-        items.push(item)?;
+    /// The items that the event neither touches nor passes over, in order of number.
+    pub(crate) fn other_items(&self, alloc: Global) -> Result<Vec<Number>, Memory>
+        requires { IsTransition self.now }
+        ensures { IfOk result (λ items. items.items ≡ others (before self.now) (event_of self.now)) }
+    {
+        self.before.know_valid();
+        let mut items = Vec::new(alloc);
+        for number in self.numbers_around(alloc)? {
+            self.push_other(&mut items, number)?;
+        }
+        Ok(items)
     }
-    Ok(())
-}
 
-/// Whether the number is that of an item that the event neither touches nor passes over.
-fn is_other(kept: &KeptState, outlook: &Outlook<'_>, event: &Event, item: Number) -> bool
-    requires accepted { IsTrue (accepted kept.now.state event.now) }
-    requires after { outlook.now ≡ apply kept.now.state event.now }
-    ensures { result ≡ is_other kept.now.state event.now item }
-{
-    outlook.is_item(item)
-        && !touches(kept, outlook, event, item)
-        && !is_passed_over(kept, outlook, event, item)
-}
-
-/// Whether the event makes a directory, and no query judges the item.
-fn is_passed_over(kept: &KeptState, outlook: &Outlook<'_>, event: &Event, item: Number) -> bool
-    requires { outlook.now ≡ apply kept.now.state event.now }
-    ensures { result ≡ is_passed_over kept.now.state event.now item }
-{
-    match event {
-        Event::Smkdir { .. } => !outlook.is_judged(item),
-        _ => false,
+    /// Adds an item to others, if the event neither touches it nor passes it over.
+    fn push_other(&self, items: &mut Vec<Number>, item: Number) -> Result<(), Memory>
+        requires { IsTransition self.now }
+        ensures { OnOk result (items.new.items ≡ items.old.items
+            ++ (if is_other (before self.now) (event_of self.now) item then item ∷ [] else [])) }
+    {
+        if self.is_other(item) {
+            items.push(item)?;
+        }
+        Ok(())
     }
-}
 
-/// Whether the event touches the item of a number.
-fn touches(kept: &KeptState, outlook: &Outlook<'_>, event: &Event, item: Number) -> bool
-    requires accepted { IsTrue (accepted kept.now.state event.now) }
-    requires after { outlook.now ≡ apply kept.now.state event.now }
-    ensures { result ≡ touches kept.now.state event.now item }
-{
-    match event {
-        Event::NewFile { .. } => item == next_number(kept),
-        Event::Rm { entry } => item == *entry,
-        Event::Mv { entry, .. } => is_moved(kept, *entry, item),
-        Event::Mark(mark) => is_marked(kept, mark, item),
-        Event::Step => is_stepped(kept, item),
-        Event::Smount { .. } => is_mounted(kept, outlook, item),
-        Event::Ssync { mount, .. } => is_synced(kept, outlook, *mount, item),
-        Event::Sumount { mount } => is_document_of(kept, *mount, item),
-        _ => false,
+    /// Whether the number is that of an item that the event neither touches nor passes over.
+    fn is_other(&self, item: Number) -> bool
+        requires { IsTransition self.now }
+        ensures { result ≡ is_other (before self.now) (event_of self.now) item }
+    {
+        self.after.is_item(item) && !self.touches(item) && !self.is_passed_over(item)
+    }
+
+    /// Whether the event makes a directory, and no query judges the item.
+    fn is_passed_over(&self, item: Number) -> bool
+        requires { IsTransition self.now }
+        ensures { result ≡ is_passed_over (before self.now) (event_of self.now) item }
+    {
+        match self.event {
+            Event::Smkdir { .. } => !self.after.is_judged(item),
+            _ => false,
+        }
+    }
+
+    /// Whether the event touches the item of a number.
+    fn touches(&self, item: Number) -> bool
+        requires { IsTransition self.now }
+        ensures { result ≡ touches (before self.now) (event_of self.now) item }
+    {
+        match self.event {
+            Event::NewFile { .. } => item == next_number(self.before),
+            Event::Rm { entry } => item == *entry,
+            Event::Mv { entry, .. } => is_moved(self.before, *entry, item),
+            Event::Mark(mark) => is_marked(self.before, mark, item),
+            Event::Step => is_stepped(self.before, item),
+            Event::Smount { .. } => self.is_mounted(item),
+            Event::Ssync { mount, .. } => self.is_synced(*mount, item),
+            Event::Sumount { mount } => is_document_of(self.before, *mount, item),
+            _ => false,
+        }
+    }
+
+    /// Whether the number will be that of a document of a mount that comes.
+    fn is_mounted(&self, item: Number) -> bool
+        ensures { result ≡ is_document_of self.now.after.now (before self.now).next item }
+    {
+        self.after.is_document_of(next_number(self.before), item)
+    }
+
+    /// Whether a document of a mount has the number, or will have it.
+    fn is_synced(&self, mount: Number, item: Number) -> bool
+        ensures { result ≡
+            (is_document_of (before self.now) mount item
+            || is_document_of self.now.after.now mount item) }
+    {
+        is_document_of(self.before, mount, item) || self.after.is_document_of(mount, item)
     }
 }
 
@@ -268,21 +239,6 @@ fn is_stepped(kept: &KeptState, item: Number) -> bool
         Some(file) => item == file,
         None => false,
     }
-}
-
-/// Whether the number will be that of a document of a mount that comes.
-fn is_mounted(kept: &KeptState, outlook: &Outlook<'_>, item: Number) -> bool
-    ensures { result ≡ is_document_of outlook.now kept.now.state.next item }
-{
-    outlook.is_document_of(next_number(kept), item)
-}
-
-/// Whether a document of a mount has the number, or will have it.
-fn is_synced(kept: &KeptState, outlook: &Outlook<'_>, mount: Number, item: Number) -> bool
-    ensures { result ≡
-        (is_document_of kept.now.state mount item || is_document_of outlook.now mount item) }
-{
-    is_document_of(kept, mount, item) || outlook.is_document_of(mount, item)
 }
 
 /// Whether a document of a mount has the number.

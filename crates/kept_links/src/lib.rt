@@ -10,6 +10,7 @@ mod news;
 mod outlook;
 mod tasks;
 mod touched;
+mod transition;
 mod unlinked;
 
 pub use linked::LinkedState;

@@ -15,6 +15,7 @@ use crate::items::begin;
 use crate::outlook::Outlook;
 use crate::tasks::{task_from, way_next};
 use crate::touched::delta_of_touched;
+use crate::transition::Transition;
 use hac_model::{Event, Memory, Number};
 use hac_outside::Steps;
 use kept_state::KeptState;
@@ -142,7 +143,12 @@ fn news_from<L: Ledger>(
     kept.know_valid();
     let outlook = Outlook::new(kept, event);
     let way = way_next(alloc, kept, &outlook, first)?;
-    let task = task_from(alloc, kept, &outlook, event, &way, first)?;
+    let transition = Transition {
+        before: kept,
+        after: &outlook,
+        event,
+    };
+    let task = task_from(alloc, &transition, &way, first)?;
     let past = Past { kept, found };
     let delta = plan(alloc, &outlook, &past, &task, probes)?;
     Ok(News {

@@ -1,14 +1,15 @@
 //! What is judged again after an event, and on which ways.
-ghost use Rattle.std.specs.Prelude.{◌≡◌, ◌==◌, ℕ, IfOk, IsTrue, false};
-ghost use Rattle.hac_model.specs.Tree.Events.{accepted, apply};
+ghost use Rattle.std.specs.Prelude.{◌≡◌, ◌==◌, ℕ, IfOk, false};
+ghost use Rattle.hac_model.specs.Tree.Events.{apply};
 ghost use Rattle.hac_model.specs.Tree.Touched.{begins};
 ghost use Rattle.hac_model.specs.declared.states.State.{State};
 ghost use Rattle.kept_links.specs.Tasks.{AreAlong, IsTaskOf, IsWayFrom, begins_touched, is_tie};
+ghost use Rattle.kept_links.specs.Transition.{IsTransition, before, event_of};
 ghost use Rattle.kept_state.specs.After.{next_state};
 ghost use Rattle.reindex.specs.Ways.{IsWayOf, begun_at, needed};
 
-use crate::items::{other_items, touched_items};
 use crate::outlook::Outlook;
+use crate::transition::Transition;
 use hac_model::{Event, Memory, Number};
 use kept_state::KeptState;
 use reeval::{Stop, Task};
@@ -19,21 +20,19 @@ use std::alloc::Global;
 /// kept.
 pub(crate) fn task_of_touched(
     alloc: Global,
-    kept: &KeptState,
-    outlook: &Outlook<'_>,
-    event: &Event,
+    transition: &Transition<'_>,
     way: &Way,
 ) -> Result<Task, Memory>
-    requires accepted { IsTrue (accepted kept.now.state event.now) }
-    requires after { outlook.now ≡ apply kept.now.state event.now }
-    requires way { IsWayOf (apply kept.now.state event.now) way.now }
-    requires never { (dir : ℕ) → begins kept.now.state event.now dir ≡ false }
-    ensures { IfOk result (λ task. IsTaskOf kept.now.state event.now task) }
+    requires transition { IsTransition transition.now }
+    requires way { IsWayOf (apply (before transition.now) (event_of transition.now)) way.now }
+    requires never { (dir : ℕ) →
+        begins (before transition.now) (event_of transition.now) dir ≡ false }
+    ensures { IfOk result (IsTaskOf (before transition.now) (event_of transition.now)) }
 {
-    kept.know_valid();
+    transition.before.know_valid();
     Ok(Task {
-        touched: touched_items(alloc, kept, outlook, event)?,
-        everywhere: stops_of_touched(alloc, way, event)?,
+        touched: transition.touched_items(alloc)?,
+        everywhere: stops_of_touched(alloc, way, transition.event)?,
         others: Vec::new(alloc),
         along: Vec::new(alloc),
     })
@@ -70,23 +69,23 @@ fn stops_only(alloc: Global, stops: &[Stop], dir: Number) -> Result<Vec<Stop>, M
 /// semantic directories behind it, and all others on the way from the first directory.
 pub(crate) fn task_from(
     alloc: Global,
-    kept: &KeptState,
-    outlook: &Outlook<'_>,
-    event: &Event,
+    transition: &Transition<'_>,
     way: &Way,
     first: Number,
 ) -> Result<Task, Memory>
-    requires accepted { IsTrue (accepted kept.now.state event.now) }
-    requires after { outlook.now ≡ apply kept.now.state event.now }
-    requires next { next_state kept.now ≡ apply kept.now.state event.now }
-    requires way { IsWayOf (apply kept.now.state event.now) way.now }
-    requires begins { (dir : ℕ) → begins kept.now.state event.now dir ≡ (dir == first) }
-    ensures { IfOk result (λ task. IsTaskOf kept.now.state event.now task) }
+    requires transition { IsTransition transition.now }
+    requires next { next_state transition.now.before.now
+        ≡ apply (before transition.now) (event_of transition.now) }
+    requires way { IsWayOf (apply (before transition.now) (event_of transition.now)) way.now }
+    requires begins { (dir : ℕ) →
+        begins (before transition.now) (event_of transition.now) dir ≡ (dir == first) }
+    ensures { IfOk result (IsTaskOf (before transition.now) (event_of transition.now)) }
 {
+    let kept = transition.before;
     kept.know_valid();
-    let touched = touched_items(alloc, kept, outlook, event)?;
-    let others = other_items(alloc, kept, outlook, event)?;
-    let along = along(alloc, kept, first, is_tie(event))?;
+    let touched = transition.touched_items(alloc)?;
+    let others = transition.other_items(alloc)?;
+    let along = along(alloc, kept, first, is_tie(transition.event))?;
     Ok(Task {
         touched,
         everywhere: Vec::from_slice(alloc, way.stops.as_slice())?,

@@ -7,9 +7,9 @@ ghost use Rattle.kept_links.specs.Coming.{state_before, state_behind};
 ghost use Rattle.reindex.specs.Moves.{OnlyMoves};
 
 use crate::coming::Coming;
-use crate::items::touched_items;
 use crate::outlook::Outlook;
 use crate::tasks::task_of_touched;
+use crate::transition::Transition;
 use hac_model::{Event, Memory};
 use hac_outside::Steps;
 use reeval::{Change, plan};
@@ -59,7 +59,12 @@ fn delta_of_move<L: Ledger>(
     } = *coming;
     kept.know_valid();
     let outlook = Outlook::new(kept, event);
-    let items = touched_items(alloc, kept, &outlook, event)?;
+    let items = Transition {
+        before: kept,
+        after: &outlook,
+        event,
+    }
+    .touched_items(alloc)?;
     let past = Past { kept, found };
     let items = items.as_slice();
     delta_of_moved(alloc, &outlook, &past, way, items, probes)
@@ -81,7 +86,12 @@ fn delta_of_removal(alloc: Global, coming: &Coming<'_>) -> Result<Vec<Change>, M
     } = *coming;
     kept.know_valid();
     let outlook = Outlook::new(kept, event);
-    let items = touched_items(alloc, kept, &outlook, event)?;
+    let items = Transition {
+        before: kept,
+        after: &outlook,
+        event,
+    }
+    .touched_items(alloc)?;
     delta_of_gone(alloc, &Past { kept, found }, way, items.as_slice())
 }
 
@@ -104,7 +114,12 @@ fn delta_of_task<L: Ledger>(
     } = *coming;
     kept.know_valid();
     let outlook = Outlook::new(kept, event);
-    let task = task_of_touched(alloc, kept, &outlook, event, way)?;
+    let transition = Transition {
+        before: kept,
+        after: &outlook,
+        event,
+    };
+    let task = task_of_touched(alloc, &transition, way)?;
     let past = Past { kept, found };
     plan(alloc, &outlook, &past, &task, probes)
 }

@@ -3,8 +3,8 @@ use Rattle.std.specs.Prelude.{filter}
 use Rattle.hac_model.specs.Tree.Events.{apply}
 use Rattle.hac_model.specs.Tree.Touched.{touches}
 use Rattle.kept_links.specs.Items.{numbers_around}
-use Rattle.kept_links.proofs.items.touched_of_all.Given as goal
+use Rattle.kept_links.proofs.transition.Transition.touched_of_all.Given as goal
 
 -- the items so far, and those among the numbers that are left, are all
 abbrev pub invariant-loop-number : goal.invariant-loop-number
-invariant-loop-number l = l.items.items ++ filter (touches l.kept.state l.event) l.number-iterator.rest.items ≡ filter (touches l.kept.state l.event) (numbers_around l.kept.state (apply l.kept.state l.event))
+invariant-loop-number l = l.items.items ++ filter (touches l.self.before.now.state l.self.event.now) l.number-iterator.rest.items ≡ filter (touches l.self.before.now.state l.self.event.now) (numbers_around l.self.before.now.state (apply l.self.before.now.state l.self.event.now))

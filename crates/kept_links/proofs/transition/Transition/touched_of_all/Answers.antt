@@ -5,19 +5,19 @@ use Rattle.hac_model.specs.Tree.Events.{apply}
 use Rattle.hac_model.specs.Tree.Touched.{touches}
 use Rattle.kept_links.specs.Items.{numbers_around}
 use Rattle.kept_links.proofs.AroundLemmas.{passing-ended, passing-next, touched-around}
-use Rattle.kept_links.proofs.items.touched_of_all.Goals as goal
+use Rattle.kept_links.proofs.transition.Transition.touched_of_all.Goals as goal
 
 pub loop-number-preserved : goal.loop-number-preserved
 loop-number-preserved c =
-    let s = c.args.kept.now.state in
-    let e = c.args.event.now in
+    let s = c.args.self.now.before.now.state in
+    let e = c.args.self.now.event.now in
     passing-next (touches s e) c.loop-number.items.items c.push_touched.new.items.items (filter (touches s e) (numbers_around s (apply s e))) c.loop-number.number-iterator.rest.items c.next.new.self.rest.items c.in-Some.number
     c.in-Some.ensures.steps.0 c.loop-number.invariant c.in_ok-push_touched.ensures
 
 pub returns : goal.returns
 returns c =
-    let s = c.args.kept.now.state in
-    let e = c.args.event.now in
+    let s = c.args.self.now.before.now.state in
+    let e = c.args.self.now.event.now in
     let left : List ℕ = c.loop-number.number-iterator.rest.items in
     passing-ended (touches s e) c.loop-number.items.items (filter (touches s e) (numbers_around s (apply s e))) left
     (nil_from_length left (omega (arith, c.in-None.ensures.steps.0, c.loop-number.number-iterator.rest.ok.0))) c.loop-number.invariant
