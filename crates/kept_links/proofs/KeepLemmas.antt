@@ -1,18 +1,16 @@
 -- The links that are kept are those of the state, before and after it changes.
-use Rattle.std.proofs.Common.{◌≡◌, ℕ, zero, suc, true, List, [], ◌∷◌, ap, arith, refl, sym, subst, ◌∙◌}
+use Rattle.std.proofs.Common.{◌≡◌, ℕ, zero, suc, List, [], ◌∷◌, ap, arith, refl, sym, subst, ◌∙◌}
 use Rattle.std.specs.Prelude.{Option, None, IsTrue, replicate, unwrap_or}
 use Rattle.hac_model.specs.Laws.{AllHappen}
 use Rattle.hac_model.specs.Tree.{raised, root_alone}
 use Rattle.hac_model.specs.Tree.Events.{accepted, apply, apply_all}
-use Rattle.hac_model.specs.Tree.Sessions.{is_stored}
 use Rattle.hac_model.specs.declared.events.Event.{Event}
-use Rattle.hac_model.specs.declared.events.Event.TheVariants.{Mkdir, NewFile, Rewrite, Ln, Smkdir, Setq, Unq, Mark, Mv, Rm, Rmdir, Smount, Ssync, Sumount, Step, Cd}
+use Rattle.hac_model.specs.declared.events.Event.TheVariants.{Step, Cd}
 use Rattle.hac_model.specs.Tree.Links.{links}
 use Rattle.hac_model.specs.Tree.Valid.{IsValid}
 use Rattle.hac_model.specs.declared.states.State.{State}
 use Rattle.hac_model.specs.declared.versions.Version.{Version}
 use Rattle.link_kinds.specs.Kinds.{Lists}
-use Rattle.kept_state.specs.After.{is_quiet}
 use Rattle.link_kinds.specs.Seen.{IsEmpty, Known, LinkListsRise, SameKinds}
 use Rattle.reeval.specs.Judging.{verdict_of}
 use Rattle.reeval.specs.Settled.{AreLinksOf, HasRoom, verdict_in}
@@ -147,22 +145,3 @@ kept-steps s count inside valid happen is are way room leads same = record {
   next = subst (λ (seen : Seen). IsWayOf (apply_all seen.state seen.ready) (unwrap_or inside.next inside.way)) (sym is)
       (subst (λ (o : Option Way). IsWayOf (apply_all s (replicate count Step)) (unwrap_or o inside.way)) (sym same) (steps-way s count inside.way valid happen way));
 }
-
--- an event that is stored and is no more than a step is a step
-pub quiet-step : (event : Event) → is_quiet event ≡ true → is_stored event ≡ true → event ≡ Step
-quiet-step Step quiet stored = refl
-quiet-step (Cd session dir) quiet stored = absurd cc
-quiet-step (Mkdir dir name) quiet stored = absurd cc
-quiet-step (NewFile dir name text) quiet stored = absurd cc
-quiet-step (Rewrite file text) quiet stored = absurd cc
-quiet-step (Ln dir name target) quiet stored = absurd cc
-quiet-step (Smkdir dir name query told) quiet stored = absurd cc
-quiet-step (Setq dir query told) quiet stored = absurd cc
-quiet-step (Unq dir) quiet stored = absurd cc
-quiet-step (Mark mark) quiet stored = absurd cc
-quiet-step (Mv entry dir name) quiet stored = absurd cc
-quiet-step (Rm entry) quiet stored = absurd cc
-quiet-step (Rmdir dir) quiet stored = absurd cc
-quiet-step (Smount dir name space documents told) quiet stored = absurd cc
-quiet-step (Ssync mount documents told) quiet stored = absurd cc
-quiet-step (Sumount mount) quiet stored = absurd cc

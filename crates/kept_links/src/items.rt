@@ -72,7 +72,8 @@ impl Transition<'_> {
     /// The items that the event touches, in order of number.
     pub(crate) fn touched_items(&self, alloc: Global) -> Result<Vec<Number>, Memory>
         requires { IsTransition self.now }
-        ensures { IfOk result (λ items. items.items ≡ touched (before self.now) (event_of self.now)) }
+        ensures { IfOk result
+            (λ items. items.items ≡ touched (before self.now) (event_of self.now)) }
     {
         self.before.know_valid();
         match reach_of(self.before, self.event) {
@@ -86,7 +87,8 @@ impl Transition<'_> {
     fn touched_of_one(&self, alloc: Global, item: Number) -> Result<Vec<Number>, Memory>
         requires transition { IsTransition self.now }
         requires reach { reach_of (before self.now) (event_of self.now) ≡ Reach.One item }
-        ensures { IfOk result (λ items. items.items ≡ touched (before self.now) (event_of self.now)) }
+        ensures { IfOk result
+            (λ items. items.items ≡ touched (before self.now) (event_of self.now)) }
     {
         self.before.know_valid();
         let mut items = Vec::new(alloc);
@@ -101,7 +103,8 @@ impl Transition<'_> {
     fn touched_of_all(&self, alloc: Global) -> Result<Vec<Number>, Memory>
         requires transition { IsTransition self.now }
         requires reach { reach_of (before self.now) (event_of self.now) ≡ Reach.Any }
-        ensures { IfOk result (λ items. items.items ≡ touched (before self.now) (event_of self.now)) }
+        ensures { IfOk result
+            (λ items. items.items ≡ touched (before self.now) (event_of self.now)) }
     {
         self.before.know_valid();
         let mut items = Vec::new(alloc);
@@ -139,7 +142,8 @@ impl Transition<'_> {
     /// The items that the event neither touches nor passes over, in order of number.
     pub(crate) fn other_items(&self, alloc: Global) -> Result<Vec<Number>, Memory>
         requires { IsTransition self.now }
-        ensures { IfOk result (λ items. items.items ≡ others (before self.now) (event_of self.now)) }
+        ensures { IfOk result
+            (λ items. items.items ≡ others (before self.now) (event_of self.now)) }
     {
         self.before.know_valid();
         let mut items = Vec::new(alloc);
