@@ -4,7 +4,7 @@ use Rattle.std.specs.Prelude.{◌⊎◌, ⊤, if◌then◌else◌, nat_le, optio
 use Rattle.std.specs.List.{AllByRecursion}
 use Rattle.std.specs.Str.{IsUtf8, bytes_eq}
 use Rattle.std.proofs.Math.Bool.{or-false}
-use Rattle.hac_model.specs.Script.CommandLine.{Parsed, asked_by, given_behind, given_by, is_dashed, names_alone, with_name, with_new}
+use Rattle.hac_model.specs.Script.CommandLine.{Parsed, options_from, given_with_value, given_by, is_dashed, names_alone, with_name, with_new}
 use Rattle.clap.specs.Values.{bool_text}
 use Rattle.clap.specs.Kinds.{Kinds, or_else}
 use Rattle.clap.specs.Faults.{check_fault, defaults_fault, entered_fault, fault_of, level_fault, settle_fault, step_fault, turn_fault, walk_fault, word_fault}
@@ -69,7 +69,7 @@ pub record Found (given : Option Parsed) (rows : List Row) : Type 0 where
 
 -- the library finds it, or tells a fault where nothing is asked for
 abbrev pub Finds : Option Parsed → Kinds → List Row → Type 0
-Finds given kinds rows = ((has_fault kinds ≡ true) × (option_and_then asked_by given ≡ None)) ⊎ ((kinds ≡ []) × Found given rows)
+Finds given kinds rows = ((has_fault kinds ≡ true) × (option_and_then options_from given ≡ None)) ⊎ ((kinds ≡ []) × Found given rows)
 
 abbrev FindsFrom : Option Parsed → Walk → List Text → Type 0
 FindsFrom given walk words = Finds given (fault_from walk words) (rows_from walk words)
@@ -142,7 +142,7 @@ all-values (space ∷ spaces) = refl
 end-of : (rows : List Row) (pending : Option (Text × List Text)) (news : ℕ) (values : Valued → List Text) (names : List Text) → Holds rows pending news values names
     → Finds (Some (so_far news values names)) (end_fault (held_with rows pending)) (finished arguments (held_with rows pending))
 end-of rows pending news values names (inr (fails, too_much)) =
-    inl (or-first (settle_fault arguments false (held_with rows pending)) _ fails, ap asked_by (sym (nothing-more news values names)) ∙ too_much (names_alone []))
+    inl (or-first (settle_fault arguments false (held_with rows pending)) _ fails, ap options_from (sym (nothing-more news values names)) ∙ too_much (names_alone []))
 end-of rows pending news values names (inl (passes, shows)) = by names shows
   where
     now : List Row
@@ -181,7 +181,7 @@ end-of rows pending news values names (inl (passes, shows)) = by names shows
 -- ---- one more word
 
 -- the library refuses a word, and nothing is asked for
-refused : (walk : Walk) (word : Text) (rest : List Text) (given : Option Parsed) → option_and_then asked_by given ≡ None → has_fault (turn_fault top [] walk word) ≡ true → FindsFrom given walk (word ∷ rest)
+refused : (walk : Walk) (word : Text) (rest : List Text) (given : Option Parsed) → option_and_then options_from given ≡ None → has_fault (turn_fault top [] walk word) ≡ true → FindsFrom given walk (word ∷ rest)
 unfolding walk_fault
 refused walk word rest given none fails =
     inl (or-first (or_else (turn_fault top [] walk word) (walk_fault top [] (walked arguments [] walk word) rest)) _ (or-first (turn_fault top [] walk word) _ fails), none)
@@ -207,7 +207,7 @@ FindsAt ended behind words rows pending news values names =
 -- the same where the value of an option is due
 abbrev FindsDue : Valued → List Text → List Row → ℕ → (Valued → List Text) → List Text → Type 0
 FindsDue which words rows news values names =
-    FindsFrom (option_map (joined (so_far news values names)) (given_behind (with_value which) words)) (due_at which false (place_of names) rows) words
+    FindsFrom (option_map (joined (so_far news values names)) (given_with_value (with_value which) words)) (due_at which false (place_of names) rows) words
 
 -- what the library finds from each stand between two words
 record FindsAll (words : List Text) : Type 0 where
@@ -349,7 +349,7 @@ alone-met tick_value true place rows pending = (refl, refl)
 alone-met make_value false place rows pending = (refl, refl)
 alone-met make_value true place rows pending = (refl, refl)
 
-alone-given : (which : Valued) (words : List Text) → given_by ((codes "--" ++ name_of which) ∷ words) ≡ given_behind (with_value which) words
+alone-given : (which : Valued) (words : List Text) → given_by ((codes "--" ++ name_of which) ∷ words) ≡ given_with_value (with_value which) words
 alone-given tick_value words = refl
 alone-given make_value words = refl
 
@@ -388,7 +388,7 @@ module _ (rest : List Text) (later : FindsAll rest) (behind : Bool) where
           (later.free false false (settled_rows arguments (Some used) (settled_rows arguments pending rows)) None new_news new_values names (inl (refl, has)))
       by (inr (fails, too_much)) =
           refused (walk_at false behind (place_of names) rows pending) word rest _
-          (ap (option_and_then asked_by) (sym same) ∙ none-more (so_far new_news new_values names) (given_by rest) too_much)
+          (ap (option_and_then options_from) (sym same) ∙ none-more (so_far new_news new_values names) (given_by rest) too_much)
           (ap has_fault first ∙ or-first (settle_fault arguments false (held_with (settled_rows arguments pending rows) (Some used))) [] fails)
 
   new-comes : (rows : List Row) (pending : Option (Text × List Text)) (news : ℕ) (values : Valued → List Text) (names : List Text) → Holds rows pending news values names
@@ -408,7 +408,7 @@ module _ (rest : List Text) (later : FindsAll rest) (behind : Bool) where
   alone-comes which rows pending news values names (inl (passes, shows)) =
       let met = alone-met which behind (place_of names) rows pending in
       goes-on (walk_at false behind (place_of names) rows pending) (due_at which false (place_of names) (settled_rows arguments pending rows)) (codes "--" ++ name_of which) rest
-      _ (option_map (joined (so_far news values names)) (given_behind (with_value which) rest)) (met.0 ∙ ap (λ kinds. or_else kinds []) passes) met.1
+      _ (option_map (joined (so_far news values names)) (given_with_value (with_value which) rest)) (met.0 ∙ ap (λ kinds. or_else kinds []) passes) met.1
       (ap (option_map (joined (so_far news values names))) (sym (alone-given which rest))) (later.due which (settled_rows arguments pending rows) news values names shows)
   alone-comes which rows pending news values names (inr (fails, too_much)) =
       refused (walk_at false behind (place_of names) rows pending) (codes "--" ++ name_of which) rest _ (none-more (so_far news values names) (given_by ((codes "--" ++ name_of which) ∷ rest)) too_much)
@@ -417,7 +417,7 @@ module _ (rest : List Text) (later : FindsAll rest) (behind : Bool) where
   faulty-comes : (word : Text) → IsFaulty word → (rows : List Row) (pending : Option (Text × List Text)) (news : ℕ) (values : Valued → List Text) (names : List Text)
       → FindsAt false behind (word ∷ rest) rows pending news values names
   faulty-comes word is rows pending news values names =
-      refused (walk_at false behind (place_of names) rows pending) word rest _ (ap (λ o. option_and_then asked_by (option_map (joined (so_far news values names)) o)) (is.given rest))
+      refused (walk_at false behind (place_of names) rows pending) word rest _ (ap (λ o. option_and_then options_from (option_map (joined (so_far news values names)) o)) (is.given rest))
       (or-first (word_fault top [] false (waiting_by behind) word (held_with rows pending)) _ (is.fails (waiting_by behind) rows pending))
 
   word-comes : (word : Text) (look : Look) → Looks look word → (rows : List Row) (pending : Option (Text × List Text)) (news : ℕ) (values : Valued → List Text) (names : List Text) → Holds rows pending news values names
@@ -498,11 +498,11 @@ module _ (rest : List Text) (later : FindsAll rest) (which : Valued) where
       let ended = due-ended which (place_of names) rows in
       goes-on (due_at which false (place_of names) rows) (due_at which true (place_of names) rows) (codes "--") rest None None ended.0 ended.1 refl (inl (stays-faulty which rows names rest, refl))
 
-  due-refused : (word : Text) (rows : List Row) (news : ℕ) (values : Valued → List Text) (names : List Text) → given_behind (with_value which) (word ∷ rest) ≡ None
+  due-refused : (word : Text) (rows : List Row) (news : ℕ) (values : Valued → List Text) (names : List Text) → given_with_value (with_value which) (word ∷ rest) ≡ None
       → has_fault (word_fault top [] false (option (name_of which)) word (held_with rows (Some (name_of which, [])))) ≡ true
       → FindsDue which (word ∷ rest) rows news values names
   due-refused word rows news values names none fails =
-      refused (due_at which false (place_of names) rows) word rest _ (ap (λ o. option_and_then asked_by (option_map (joined (so_far news values names)) o)) none)
+      refused (due_at which false (place_of names) rows) word rest _ (ap (λ o. option_and_then options_from (option_map (joined (so_far news values names)) o)) none)
       (or-first (word_fault top [] false (option (name_of which)) word (held_with rows (Some (name_of which, [])))) _ fails)
 
   due-comes : (word : Text) (look : Look) → Looks look word → (rows : List Row) (news : ℕ) (values : Valued → List Text) (names : List Text) → Shows rows news values names

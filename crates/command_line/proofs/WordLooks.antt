@@ -5,7 +5,7 @@ use Rattle.std.specs.List.{after_first, before_first, position_or_len}
 use Rattle.std.specs.Str.{IsUtf8, bytes_eq, chars, encode_utf8_all}
 use Rattle.std.proofs.lemmas.Slice.Eq.{bytes_eq-Decides}
 use Rattle.std.proofs.lemmas.Str.{IsUtf8-past_char, encode_ascii, encodes-chars}
-use Rattle.hac_model.specs.Script.CommandLine.{Parsed, begins_make, begins_tick, ends_options, given_behind, given_by, is_dashed, is_make_word, is_new, is_tick_word, with_make, with_name, with_tick}
+use Rattle.hac_model.specs.Script.CommandLine.{Parsed, begins_make, begins_tick, ends_options, given_with_value, given_by, is_dashed, is_make_word, is_new, is_tick_word, with_make, with_name, with_tick}
 use Rattle.clap.specs.Lexer.{has_byte}
 use Rattle.clap.specs.Kinds.{Kinds, or_else}
 use Rattle.clap.specs.Faults.{bundle_step_fault, flags_fault, word_fault}
@@ -55,14 +55,14 @@ held_with rows pending = record { rows = rows; pending = pending; skip = 0 }
 -- a name, or a value
 pub record IsPlain (word : Text) : Type 0 where
   pub given : (words : List Text) → given_by (word ∷ words) ≡ option_map (with_name word) (given_by words)
-  pub behind : (step : Text → Parsed → Parsed) (words : List Text) → given_behind step (word ∷ words) ≡ option_map (step word) (given_by words)
+  pub behind : (step : Text → Parsed → Parsed) (words : List Text) → given_with_value step (word ∷ words) ≡ option_map (step word) (given_by words)
   pub met : (waiting : Waiting) (place : ℕ) (held : Held) → word_met arguments [] false waiting place word held ≡ plain_word arguments waiting word held
   pub passes : (waiting : Waiting) (held : Held) → word_fault top [] false waiting word held ≡ []
 
 -- no option that the program has
 pub record IsFaulty (word : Text) : Type 0 where
   pub given : (words : List Text) → given_by (word ∷ words) ≡ None
-  pub behind : (step : Text → Parsed → Parsed) (words : List Text) → given_behind step (word ∷ words) ≡ None
+  pub behind : (step : Text → Parsed → Parsed) (words : List Text) → given_with_value step (word ∷ words) ≡ None
   pub fails : (waiting : Waiting) (rows : List Row) (pending : Option (Text × List Text)) → has_fault (word_fault top [] false waiting word (held_with rows pending)) ≡ true
 
 -- how a word looks
@@ -155,13 +155,13 @@ record IsNone (word : Text) : Type 0 where
 faulty-given : (word : Text) → IsNone word → is_dashed word ≡ true → (words : List Text) → given_by (word ∷ words) ≡ None
 faulty-given word none dashed words = rw (none.no_end, none.no_new, none.no_tick, none.no_tick_value, none.no_make, none.no_make_value, dashed) refl
 
-pub faulty-behind : (word : Text) → is_dashed word ≡ true → (step : Text → Parsed → Parsed) (words : List Text) → given_behind step (word ∷ words) ≡ None
+pub faulty-behind : (word : Text) → is_dashed word ≡ true → (step : Text → Parsed → Parsed) (words : List Text) → given_with_value step (word ∷ words) ≡ None
 faulty-behind word dashed step words = rw dashed refl
 
 plain-given : (word : Text) → IsNone word → is_dashed word ≡ false → (words : List Text) → given_by (word ∷ words) ≡ option_map (with_name word) (given_by words)
 plain-given word none bare words = rw (none.no_end, none.no_new, none.no_tick, none.no_tick_value, none.no_make, none.no_make_value, bare) refl
 
-plain-behind : (word : Text) → is_dashed word ≡ false → (step : Text → Parsed → Parsed) (words : List Text) → given_behind step (word ∷ words) ≡ option_map (step word) (given_by words)
+plain-behind : (word : Text) → is_dashed word ≡ false → (step : Text → Parsed → Parsed) (words : List Text) → given_with_value step (word ∷ words) ≡ option_map (step word) (given_by words)
 plain-behind word bare step words = rw bare refl
 
 has-first : (x : ℕ) (xs : Text) → IsUtf8 (x ∷ xs) → (c : ℕ) × (cs : Text) × (chars (x ∷ xs) ≡ c ∷ cs)

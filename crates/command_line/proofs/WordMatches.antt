@@ -5,7 +5,7 @@ use Rattle.std.specs.Borrow.{Bor}
 use Rattle.std.specs.List.{AllByRecursion}
 use Rattle.std.specs.Str.{IsUtf8}
 use Rattle.std.proofs.lemmas.Str.{IsUtf8-string_bytes}
-use Rattle.hac_model.specs.Script.CommandLine.{Parsed, Options, Space, asked_by, fresh_of, given_by, make_of, options, spaces_of, store_of, tick_of}
+use Rattle.hac_model.specs.Script.CommandLine.{Parsed, Options, Space, options_from, fresh_of, given_by, make_of, options, spaces_of, store_of, tick_of}
 use Rattle.clap.specs.Values.{bool_text}
 use Rattle.clap.specs.Kinds.{Kinds}
 use Rattle.clap.specs.Faults.{fault_of}
@@ -81,7 +81,7 @@ is_memory : WordsFault → Bool
 is_memory Memory = true
 is_memory Usage = false
 
-none-by : (given : Option Parsed) (kinds : Kinds) (rows : List Row) (e : Error) → Finds given kinds rows → HasKind kinds e → fault_by (kind_of e) ≡ Usage → option_and_then asked_by given ≡ None
+none-by : (given : Option Parsed) (kinds : Kinds) (rows : List Row) (e : Error) → Finds given kinds rows → HasKind kinds e → fault_by (kind_of e) ≡ Usage → option_and_then options_from given ≡ None
 unfolding is_memory
 none-by given kinds rows e (inl (fails, none)) has is = none
 none-by given kinds rows e (inr (free, found)) has is = elim (subst (λ ks. HasKind ks e) free has) [
@@ -103,7 +103,7 @@ asked_with fresh store tick make spaces =
     option_and_then (λ tick. option_and_then (λ make. option_map (λ spaces. record { fresh = fresh; tick = tick; make = make; store = store; spaces = spaces }) spaces) make) tick
 
 asked-is : (fresh : Bool) (values : Valued → List Text) (store : Text) (spaces : List Text) → nat_le 1 (length store) ≡ true
-    → asked_by (so_far (if fresh then 1 else 0) values (store ∷ spaces)) ≡ asked_with fresh store (tick_of (values tick_value)) (make_of (values make_value)) (spaces_of spaces)
+    → options_from (so_far (if fresh then 1 else 0) values (store ∷ spaces)) ≡ asked_with fresh store (tick_of (values tick_value)) (make_of (values make_value)) (spaces_of spaces)
 asked-is fresh values store spaces filled = by fresh (tick_of (values tick_value)) (make_of (values make_value))
   where
     rest_of : Bool → ℕ → Option ℕ → Option Options
@@ -145,7 +145,7 @@ module _ {Z : Type 0} (words : List (String Z)) (m : ArgMatches) (has : IsFound 
   asked-told : options (map string_bytes words) ≡ asked_with has.fresh has.store tick_asked make_asked named
   unfolding options
   asked-told =
-      ap (option_and_then asked_by) has.given_is ∙ asked-is has.fresh (λ which. option_to_list (has.told which)) has.store has.spaces has.filled
+      ap (option_and_then options_from) has.given_is ∙ asked-is has.fresh (λ which. option_to_list (has.told which)) has.store has.spaces has.filled
       ∙ ap (λ spaces. asked_with has.fresh has.store tick_asked make_asked (spaces_of spaces)) (sym has.spaces_are)
 
   got-told : (which : Valued) (got : Option (Bor Text)) → Gets (name_of which) got → values_of got ≡ option_to_list (has.told which)

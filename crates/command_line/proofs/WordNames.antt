@@ -2,7 +2,7 @@
 use Rattle.std.proofs.Common.{◌≡◌, ℕ, Bool, true, false, List, length, map, Option, None, Some, refl, ap, subst, drop}
 use Rattle.std.specs.Prelude.{◌&&◌, if◌then◌else◌, nat_le}
 use Rattle.std.specs.Option.{option_and_then, option_map}
-use Rattle.hac_model.specs.Script.CommandLine.{Options, Parsed, Space, asked_by, each_space, fresh_of, given_by, make_of, may_stand, names_differ, options, spaces_of, store_of, tick_of}
+use Rattle.hac_model.specs.Script.CommandLine.{Options, Parsed, Space, options_from, each_space, fresh_of, given_by, make_of, may_stand, names_differ, options, spaces_of, store_of, tick_of}
 use Rattle.hac_model.specs.declared.limits.TheConstants.{SPACES_LIMIT}
 
 -- the names of spaces
@@ -36,7 +36,7 @@ pub asked-differ : (words : List (List ℕ)) (asked : Options) → options words
 unfolding options
 asked-differ words asked is = by (given_by words) is
   where
-    by : (given : Option Parsed) → option_and_then asked_by given ≡ Some asked → names_differ (names_in asked.spaces) ≡ true
+    by : (given : Option Parsed) → option_and_then options_from given ≡ Some asked → names_differ (names_in asked.spaces) ≡ true
     by None is = absurd cc
     by (Some given) is =
         stand-differ (each_space (drop 1 given.names)) asked.spaces

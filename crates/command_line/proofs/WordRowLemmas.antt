@@ -5,7 +5,7 @@ use Rattle.std.specs.List.{list_any}
 use Rattle.std.specs.Option.{option_or}
 use Rattle.std.specs.Str.{bytes_eq}
 use Rattle.std.proofs.lemmas.List.Folds.{find-append}
-use Rattle.hac_model.specs.Script.CommandLine.{Parsed, asked_by, fresh_of, make_of, store_of, tick_of, with_name, with_new}
+use Rattle.hac_model.specs.Script.CommandLine.{Parsed, options_from, fresh_of, make_of, store_of, tick_of, with_name, with_new}
 use Rattle.clap.specs.Faults.{settle_fault}
 use Rattle.clap.specs.Walk.{Row, Text, at_row, has_row, more_values, stronger, settled_rows, with_values}
 use Rattle.clap.specs.declared.builder.value_parser.Reading.TheVariants.{AsWritten}
@@ -121,22 +121,22 @@ pub none-through : {T U : Type 0} (o : Option T) (f : T → Option U) → ((x : 
 none-through None f none = refl
 none-through (Some x) f none = none x
 
-pub none-by-news : (given : Parsed) → fresh_of given.news ≡ None → asked_by given ≡ None
+pub none-by-news : (given : Parsed) → fresh_of given.news ≡ None → options_from given ≡ None
 none-by-news given none = rw none refl
 
-pub none-by-ticks : (given : Parsed) → tick_of given.ticks ≡ None → asked_by given ≡ None
+pub none-by-ticks : (given : Parsed) → tick_of given.ticks ≡ None → options_from given ≡ None
 none-by-ticks given none = none-through (fresh_of given.news) _ (λ fresh. rw none refl)
 
-pub none-by-makes : (given : Parsed) → make_of given.makes ≡ None → asked_by given ≡ None
+pub none-by-makes : (given : Parsed) → make_of given.makes ≡ None → options_from given ≡ None
 none-by-makes given none = none-through (fresh_of given.news) _ (λ fresh. none-through (tick_of given.ticks) _ (λ tick. rw none refl))
 
-pub none-by-names : (given : Parsed) → store_of given.names ≡ None → asked_by given ≡ None
+pub none-by-names : (given : Parsed) → store_of given.names ≡ None → options_from given ≡ None
 none-by-names given none =
     none-through (fresh_of given.news) _ (λ fresh. none-through (tick_of given.ticks) _ (λ tick. none-through (make_of given.makes) _ (λ make. rw none refl)))
 
 -- whatever follows, nothing is asked for
 abbrev pub IsTooMuch : Parsed → Type 0
-IsTooMuch before = (more : Parsed) → asked_by (joined before more) ≡ None
+IsTooMuch before = (more : Parsed) → options_from (joined before more) ≡ None
 
 pub two-news : (values : Valued → List Text) (names : List Text) → IsTooMuch (so_far 2 values names)
 two-news values names more =
@@ -150,7 +150,7 @@ two-values make_value news a b values names is more = none-by-makes (joined (so_
 pub empty-name : (news : ℕ) (values : Valued → List Text) → IsTooMuch (so_far news values ([] ∷ []))
 empty-name news values more = none-by-names (joined (so_far news values ([] ∷ [])) more) refl
 
-pub none-more : (before : Parsed) (more : Option Parsed) → IsTooMuch before → option_and_then asked_by (option_map (joined before) more) ≡ None
+pub none-more : (before : Parsed) (more : Option Parsed) → IsTooMuch before → option_and_then options_from (option_map (joined before) more) ≡ None
 none-more before None too_much = refl
 none-more before (Some more) too_much = too_much more
 

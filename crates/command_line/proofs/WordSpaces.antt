@@ -5,7 +5,7 @@ use Rattle.std.specs.Borrow.{Bor}
 use Rattle.std.specs.List.{list_any}
 use Rattle.std.specs.Str.{bytes_eq}
 use Rattle.std.proofs.lemmas.List.{at_drop_more, drop_all, length-map, map-append}
-use Rattle.hac_model.specs.Script.CommandLine.{Space, each_space, may_stand, names_differ, space_of}
+use Rattle.hac_model.specs.Script.CommandLine.{Space, each_space, may_stand, names_differ, space_in_word}
 use Rattle.hac_model.specs.declared.limits.TheConstants.{SPACES_LIMIT}
 use Rattle.command_line.specs.Words.{space_asked, spaces_asked}
 use Rattle.command_line.specs.declared.words.SpaceFile.{SpaceFile}
@@ -67,19 +67,19 @@ before-more spaces space None = refl
 before-more spaces space (Some more) = ap Some (append_assoc spaces (space ∷ []) more)
 
 module _ (words : List (Bor (List ℕ))) (at : ℕ) (word : Bor (List ℕ)) (inside : at < length words) (is : word ≡ slice_index_or words at (record { ref_ptr = (0, 0); now = [] })) (spaces : List Space) where
-  one-more : before spaces (each_space (texts (drop at words))) ≡ before spaces (option_and_then (λ space. option_map (λ more. space ∷ more) (each_space (texts (drop (at + 1) words)))) (space_of word.now))
+  one-more : before spaces (each_space (texts (drop at words))) ≡ before spaces (option_and_then (λ space. option_map (λ more. space ∷ more) (each_space (texts (drop (at + 1) words)))) (space_in_word word.now))
   one-more =
       at_drop_more (λ left. before spaces (each_space (texts left))) words at (record { ref_ptr = (0, 0); now = [] }) inside
       ∙ ap (λ first. before spaces (each_space (texts (first ∷ drop (at + 1) words)))) (sym is)
 
   -- the next word has a space
-  pub space-next : (space : Space) → space_of word.now ≡ Some space → before (spaces ++ space ∷ []) (each_space (texts (drop (at + 1) words))) ≡ before spaces (each_space (texts (drop at words)))
+  pub space-next : (space : Space) → space_in_word word.now ≡ Some space → before (spaces ++ space ∷ []) (each_space (texts (drop (at + 1) words))) ≡ before spaces (each_space (texts (drop at words)))
   space-next space has =
       before-more spaces space (each_space (texts (drop (at + 1) words)))
       ∙ sym (one-more ∙ ap (λ found. before spaces (option_and_then (λ space. option_map (λ more. space ∷ more) (each_space (texts (drop (at + 1) words)))) found)) has)
 
   -- it has none
-  pub no-space : space_of word.now ≡ None → before spaces (each_space (texts (drop at words))) ≡ None
+  pub no-space : space_in_word word.now ≡ None → before spaces (each_space (texts (drop at words))) ≡ None
   no-space none = one-more ∙ ap (λ found. before spaces (option_and_then (λ space. option_map (λ more. space ∷ more) (each_space (texts (drop (at + 1) words)))) found)) none
 
 -- no words are left

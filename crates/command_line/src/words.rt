@@ -6,7 +6,7 @@ ghost use Rattle.std.specs.List.{list_any};
 ghost use Rattle.std.specs.Str.{bytes_eq};
 ghost use Rattle.clap.specs.Words.{app_of, rule_of};
 ghost use Rattle.hac_model.specs.Script.CommandLine.{each_space, make_of, may_stand};
-ghost use Rattle.hac_model.specs.Script.CommandLine.{names_differ, options, space_of};
+ghost use Rattle.hac_model.specs.Script.CommandLine.{names_differ, options, space_in_word};
 ghost use Rattle.hac_model.specs.Script.CommandLine.{spaces_of, tick_of};
 ghost use Rattle.command_line.specs.Words.{asked_of, flag_option, hac, space_asked, spaces_asked};
 ghost use Rattle.command_line.specs.Words.{valued_option, values_of};
@@ -154,7 +154,7 @@ fn each_space<'a>(alloc: Global, words: &[&'a str]) -> Result<Vec<SpaceFile<'a>>
 {
     let mut spaces = Vec::new(alloc);
     for word in words {
-        match space_of(alloc, word) {
+        match space_in_word(alloc, word) {
             Ok(space) => {
                 if spaces.push(space).is_err() {
                     return Err(WordsFault::Memory);
@@ -168,9 +168,9 @@ fn each_space<'a>(alloc: Global, words: &[&'a str]) -> Result<Vec<SpaceFile<'a>>
 
 /// The space of a word. Its name stands before the first `=` and its file behind that, which may
 /// hold more of them.
-fn space_of<'a>(alloc: Global, word: &'a str) -> Result<SpaceFile<'a>, WordsFault>
-    ensures read { IfOk result (λ space. space_of word.now ≡ Some (space_asked space)) }
-    ensures usage { IfErr result (λ fault. fault ≡ WordsFault.Usage → space_of word.now ≡ None) }
+fn space_in_word<'a>(alloc: Global, word: &'a str) -> Result<SpaceFile<'a>, WordsFault>
+    ensures read { IfOk result (λ space. space_in_word word.now ≡ Some (space_asked space)) }
+    ensures usage { IfErr result (λ fault. fault ≡ WordsFault.Usage → space_in_word word.now ≡ None) }
 {
     let Some((name, file)) = word.split_once('=') else {
         return Err(WordsFault::Usage);

@@ -9,7 +9,7 @@ use Rattle.hac_model.specs.Payload.Fields.{num, nothing, way_at, choice_at}
 use Rattle.hac_model.specs.Query.Formula.{Formula}
 use Rattle.hac_model.specs.Query.Formula as query
 use Rattle.hac_model.specs.Query.Queries.{all_leaves, are_terms, is_query, term_size, term_count, letter_count, not_count}
-use Rattle.hac_model.specs.Payload.QueryFields.{Token, word_field, token_part, token_ways, token_field, are_nums, query_bytes, Room, room_after, is_barred, token_at, tokens_at, joined, put, built, first_built, query_read, query_fits, query_field}
+use Rattle.hac_model.specs.Payload.QueryFields.{Token, word_field, token_part, token_ways, token_field, are_nums, query_bytes, Room, room_after, is_barred, token_at, tokens_at, two_joined, put, built, first_built, query_read, query_fits, query_field}
 use Rattle.hac_model.specs.Payload.QueryFields as token
 use Rattle.hac_model.specs.Query.Words.{is_word}
 use Rattle.hac_model.specs.declared.limits.TheConstants.{NESTING_LIMIT, QUERY_LIMIT, TERMS_LIMIT}
@@ -117,7 +117,7 @@ two_take : (version : Version) (nots : ℕ) (wanted : List ℕ) (terms letters k
     → ((l r : Formula ℕ) → letter_count (join l r) ≡ letter_count l + letter_count r)
     → ((l r : Formula ℕ) → terms_fit version (join l r) ≡ (terms_fit version l && terms_fit version r))
     → bytes ≡ kind ∷ after → room_of (nots ∷ nots ∷ wanted) terms letters ≡ room
-    → TookQueries version room after qs behind → TookQueries version (room_of (nots ∷ wanted) terms letters) bytes (joined join qs) behind
+    → TookQueries version room after qs behind → TookQueries version (room_of (nots ∷ wanted) terms letters) bytes (two_joined join qs) behind
 two_take version nots wanted terms letters kind join room bytes after [] behind t1 t2 t3 t4 t5 text e took =
     let took : TookQueries version (room_of (nots ∷ nots ∷ wanted) terms letters) after [] behind = subst (λ (r : Room). TookQueries version r after [] behind) (sym e) took in
     absurd took.wanted

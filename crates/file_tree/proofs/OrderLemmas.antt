@@ -6,7 +6,7 @@ use Rattle.std.specs.Str.{bytes_eq}
 use Rattle.std.specs.Cmp.Lexicographic.{nat_list_eq_equiv}
 use Rattle.std.proofs.lemmas.Bool.{eqb-true, ne_eqb}
 use Rattle.hac_model.specs.Tree.Depends.{Among}
-use Rattle.hac_model.specs.Tree.Events.{is_bare}
+use Rattle.hac_model.specs.Tree.Events.{is_empty_at}
 use Rattle.hac_model.specs.Tree.Listing.{children, in_order, is_before, put_in_order}
 use Rattle.hac_model.specs.Tree.{child, entry_at}
 use Rattle.hac_model.specs.Tree.Valid.{NamesDiffer, NumbersRise}
@@ -206,9 +206,9 @@ module _ (t : Inside) (h : IsShaped t) (dir : ℕ) where
           order-among dir (state_of t).entries n found.0 (seen-entry t h n ∙ found.1) (entry_of-number t.nodes n found.0 found.1) found.2
 
 -- a directory with an empty list is empty
-bare-list : (dir : ℕ) (es : List Entry) → is_bare es dir ≡ (length (numbers_of (in_order (standing dir es))) == 0)
+bare-list : (dir : ℕ) (es : List Entry) → is_empty_at es dir ≡ (length (numbers_of (in_order (standing dir es))) == 0)
 bare-list dir [] = refl
-bare-list dir (e ∷ es) = elim (e.parent == dir) as (λ b. (not b && is_bare es dir) ≡ (length (numbers_of (in_order (cond b (e ∷ standing dir es) (standing dir es)))) == 0)) [
+bare-list dir (e ∷ es) = elim (e.parent == dir) as (λ b. (not b && is_empty_at es dir) ≡ (length (numbers_of (in_order (cond b (e ∷ standing dir es) (standing dir es)))) == 0)) [
   | true ↦ sym (some_in (numbers_of (put_in_order e (in_order (standing dir es)))) (put-among e (in_order (standing dir es))))
   | false ↦ bare-list dir es
 ]
@@ -221,5 +221,5 @@ module _ (t : Inside) (s : Seen) (view : seen_of t ≡ s) (h : IsShaped t) (dir 
   pub children-seen : numbers_of (children s.state dir) ≡ kids_of t.nodes dir
   children-seen = ap (λ (x : Seen). numbers_of (children x.state dir)) (sym view) ∙ children-numbers t h dir
 
-  pub bare-seen : is_bare s.state.entries dir ≡ (length (kids_of t.nodes dir) == 0)
+  pub bare-seen : is_empty_at s.state.entries dir ≡ (length (kids_of t.nodes dir) == 0)
   bare-seen = bare-list dir s.state.entries ∙ ap (λ (ns : List ℕ). length ns == 0) children-seen

@@ -2,7 +2,7 @@
 ghost use Rattle.std.specs.Prelude.{◌≡◌, ◌==◌, is_some, Some, IfOk, IfSome, IsTrue, IsSome, []};
 ghost use Rattle.std.specs.Prelude.{length, map};
 ghost use Rattle.std.specs.Option.{option_copied, option_map, option_and_then};
-ghost use Rattle.hac_model.specs.Tree.Events.{is_bare, next_dirty};
+ghost use Rattle.hac_model.specs.Tree.Events.{is_empty_at, next_dirty};
 ghost use Rattle.hac_model.specs.Tree.Limits.{counts};
 ghost use Rattle.hac_model.specs.Tree.Links.{is_item, parent_of, query_at, shown_of, space_at};
 ghost use Rattle.hac_model.specs.Tree.Listing.{children};
@@ -345,7 +345,7 @@ impl Tree {
     /// The entries of a directory, in byte order of names.
     pub fn children(&self, dir: Number) -> Items<'_>
         ensures numbers { result ≡ map (λ entry. entry.number) (children self.now.state dir) }
-        ensures bare { is_bare self.now.state.entries dir ≡ (length result == 0) }
+        ensures bare { is_empty_at self.now.state.entries dir ≡ (length result == 0) }
     {
         children_at(&self.nodes, dir)
     }

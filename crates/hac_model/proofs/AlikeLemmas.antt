@@ -6,7 +6,7 @@ use Rattle.std.specs.Option.{option_map, option_map_or, unwrap_or}
 use Rattle.hac_model.specs.Run.Answers.{and_then, first_cause}
 use Rattle.hac_model.specs.Tree.Bare.{bare, bare_body}
 use Rattle.hac_model.specs.Tree.Depends.{named_in}
-use Rattle.hac_model.specs.Tree.Events.{are_directories, dirty, edited, is_bare, is_free, is_inside, may_ask}
+use Rattle.hac_model.specs.Tree.Events.{are_directories, dirty, edited, is_empty_at, is_free, is_inside, may_ask}
 use Rattle.hac_model.specs.Query.Formula.{Formula}
 use Rattle.hac_model.specs.Query.Formula as query
 use Rattle.hac_model.specs.Tree.Limits.{answer_limits, layout_limits, counts, first_passed, passed_limit, file_bytes}
@@ -160,10 +160,10 @@ is_inside-bare s dir e = λ i. dir == e || extends (path_of-bare s dir i) (path_
 pub is_free-bare : (s : State) (dir : ℕ) (name : List ℕ) → is_free (bare s) dir name ≡ is_free s dir name
 is_free-bare s dir name = λ i. directory-bare s dir i && is_name name && is_none (child-mapped bare_body s.entries dir name i) && not (mount-bare s dir i)
 
-pub is_bare-bare : (s : State) (dir : ℕ) → is_bare (bare s).entries dir ≡ is_bare s.entries dir
+pub is_bare-bare : (s : State) (dir : ℕ) → is_empty_at (bare s).entries dir ≡ is_empty_at s.entries dir
 is_bare-bare s dir = each s.entries
   where
-    each : (es : List Entry) → is_bare (map (edited bare_body) es) dir ≡ is_bare es dir
+    each : (es : List Entry) → is_empty_at (map (edited bare_body) es) dir ≡ is_empty_at es dir
     each [] = refl
     each (e ∷ es) = ap (λ (b : Bool). not (e.parent == dir) && b) (each es)
 

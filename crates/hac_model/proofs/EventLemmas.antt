@@ -6,7 +6,7 @@ use Rattle.std.specs.Option.{option_map, option_map_or}
 use Rattle.std.proofs.lemmas.Bool.{and_from, and_parts, not-true, not_from_false}
 use Rattle.std.proofs.lemmas.Bool.Decides.{nat_tests}
 use Rattle.hac_model.specs.Run.Answers.{first_cause}
-use Rattle.hac_model.specs.Tree.Events.{accepted, apply, apply_all, asking, changed_at, dirty, edited, indexed, is_bare, is_free, is_clear, is_inside, is_placed, is_possible, is_unreferenced, may_ask, next_dirty, is_made_holder, is_vacant}
+use Rattle.hac_model.specs.Tree.Events.{accepted, apply, apply_all, asking, changed_at, dirty, edited, indexed, is_empty_at, is_free, is_clear, is_inside, is_placed, is_possible, is_unreferenced, may_ask, next_dirty, is_made_holder, is_vacant}
 use Rattle.hac_model.specs.Tree.Depends.{cycle_of_mark, cycle_of_move, cycle_over, refers_to, referrers}
 use Rattle.hac_model.specs.Laws.{AllHappen}
 use Rattle.hac_model.specs.Tree.Limits.{are_answers_few, dirty_count, is_text, passed_limit}
@@ -296,7 +296,7 @@ module _ (s : State) (h : IsLayout s) where
   unblocked-placed answers (Rmdir dir) there free told few =
       let root = free-root s dir (filled_cause s dir ∷ referenced_cause s dir ∷ busy_cause s dir ∷ []) free in
       let full = no_cause (filled_cause s dir) (referenced_cause s dir ∷ busy_cause s dir ∷ []) root.1 in
-      and_from (is_made_holder s dir) (is_bare s.entries dir) (made-holder dir there root.0) (no_other (is_bare s.entries dir) (refusal.NotEmpty (path_of s dir)) full.0)
+      and_from (is_made_holder s dir) (is_empty_at s.entries dir) (made-holder dir there root.0) (no_other (is_empty_at s.entries dir) (refusal.NotEmpty (path_of s dir)) full.0)
   unblocked-placed answers (Write (There number) text) there free told few = and_from (is_file_at s.entries number) (is_text text) (file-there number (slot-own number there.0) free) there.1
   unblocked-placed answers (Write (Free dir name) text) there free told few = and_from (is_free s dir name) (is_text text) (slot-free true dir name there.0) there.1
   unblocked-placed answers (Cd session dir) there free told few = and_from (is_space_name session) (is_directory_at s.entries dir) there.0 there.1

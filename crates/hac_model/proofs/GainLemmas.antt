@@ -14,7 +14,7 @@ use Rattle.hac_model.specs.Tree.Events.{edited, is_free, may_ask}
 use Rattle.hac_model.specs.Tree.Limits.{are_answers_few, counts}
 use Rattle.hac_model.specs.Tree.Links.{answers_at, is_item, parent_of, permanent_at, query_at}
 use Rattle.hac_model.specs.Tree.Mounting.{answers_to, are_told, do_rise_from, is_told}
-use Rattle.hac_model.specs.Tree.Mounts.{in_order, is_kept, terms_in, terms_in_use}
+use Rattle.hac_model.specs.Tree.Mounts.{terms_in_order, is_kept, terms_in, terms_in_use}
 use Rattle.hac_model.specs.Tree.{answers_in, body_at, entry_at, is_directory, is_directory_at, is_document, is_linkable, is_made_directory, is_mount, is_mount_at, permanent_in}
 use Rattle.hac_model.specs.Tree.Valid.{AsksWell, IsAnswer, IsLayout, IsSoundMount, IsValid, KeepsWell, is_document_of}
 use Rattle.hac_model.specs.Versions.{docs_limit}
@@ -241,7 +241,7 @@ module _ (s : State) (query : Formula ℕ) (told : List (List ℕ)) where
         })
       where
         askable : AllByRecursion (λ term. is_askable term ≡ true) (unanswered query answers)
-        askable = all-filter (λ term. is_askable term ≡ true) (λ term. not (is_kept answers term)) (in_order (terms_of query)) (all-order (λ term. is_askable term ≡ true) (terms_of query) (query-askable s query may))
+        askable = all-filter (λ term. is_askable term ≡ true) (λ term. not (is_kept answers term)) (terms_in_order (terms_of query)) (all-order (λ term. is_askable term ≡ true) (terms_of query) (query-askable s query may))
 
         each-told : (numbers : List ℕ) → is_told s m numbers ≡ true → is_told t m numbers ≡ true
         each-told numbers h = (λ i. do_rise_from 0 numbers && list_all (λ n. documents-told m n i) numbers) ∙ h

@@ -21,7 +21,7 @@ use Rattle.hac_model.specs.Tree.Asking.{are_all_told, asked_by, unanswered}
 use Rattle.hac_model.specs.Tree.Depends.{named_in}
 use Rattle.hac_model.specs.Tree.Events.{accepted, apply, are_directories, is_possible, may_ask}
 use Rattle.hac_model.specs.Tree.Links.{answers_at, parent_of}
-use Rattle.hac_model.specs.Tree.Mounts.{in_order, is_kept, put_term, terms_to_ask}
+use Rattle.hac_model.specs.Tree.Mounts.{terms_in_order, is_kept, put_term, terms_to_ask}
 use Rattle.hac_model.specs.Tree.Changes.{changed_in, edited}
 use Rattle.hac_model.specs.Tree.Limits.{answers_kept, are_answers_few, documents_kept, item_count, mount_count, passed_limit}
 use Rattle.hac_model.specs.Tree.Listing.{is_before}
@@ -291,9 +291,9 @@ put-few term (first ∷ terms) =
       ]
     ]
 
-order-few : (terms : List Term) → length (in_order terms) ≤ length terms
+order-few : (terms : List Term) → length (terms_in_order terms) ≤ length terms
 order-few [] = omega arith
-order-few (term ∷ terms) = omega (arith, order-few terms, put-few term (in_order terms))
+order-few (term ∷ terms) = omega (arith, order-few terms, put-few term (terms_in_order terms))
 
 terms-few : (q : Formula ℕ) → length (terms_of q) ≤ term_count q
 terms-few (query.Term term) = omega arith
@@ -314,7 +314,7 @@ asked-few s query e terms = few (is_mount e.body)
   where
     few : (b : Bool) → length (if b then unanswered query (answers_at s e.number) else []) ≤ 64 * cond {A = ℕ} b 1 0
     few true =
-        omega (arith, passing-few (λ term. not (is_kept (answers_at s e.number) term)) (in_order (terms_of query)), order-few (terms_of query), terms-few query, terms)
+        omega (arith, passing-few (λ term. not (is_kept (answers_at s e.number) term)) (terms_in_order (terms_of query)), order-few (terms_of query), terms-few query, terms)
     few false = omega arith
 
 -- what was told has so many lists, and so many numbers in them

@@ -11,7 +11,7 @@ use Rattle.hac_model.specs.Tree.Changes.{edited}
 use Rattle.hac_model.specs.Tree.Depends.{named_in}
 use Rattle.hac_model.specs.Tree.Facts.{Facts, facts_at, facts_in, facts_without, marks_without, no_facts, put_at}
 use Rattle.hac_model.specs.Tree.Mounting.{cleared, documents_from, forgetting_such, fresh, is_among, is_gone, is_of_mount, is_such_at, keeping, mounted, numbers_without, redocumented, synced, unmounted, without_such}
-use Rattle.hac_model.specs.Tree.Mounts.{in_order, terms_in_use, terms_to_ask}
+use Rattle.hac_model.specs.Tree.Mounts.{terms_in_order, terms_in_use, terms_to_ask}
 use Rattle.hac_model.specs.Tree.{entry_at, is_directory_at, is_document, is_holder_at, is_mount, is_mount_at, permanent_in}
 use Rattle.hac_model.specs.Tree.Valid.{IsLayout, NumbersRise, is_in_place}
 use Rattle.hac_model.specs.declared.states.Answer.{Answer}
@@ -190,7 +190,7 @@ module _ (is_dir : ℕ → Bool) where
 -- The bare tree is asked as well.
 
 pub terms-bare : (s : State) → terms_to_ask (bare s).entries ≡ terms_to_ask s.entries
-terms-bare s = ap in_order (each s.entries)
+terms-bare s = ap terms_in_order (each s.entries)
   where
     each : (es : List Entry) → terms_in_use (map (edited bare_body) es) ≡ terms_in_use es
     each [] = refl

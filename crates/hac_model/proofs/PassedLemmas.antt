@@ -4,7 +4,7 @@ use Rattle.std.specs.Prelude.{nat_lt, filter, Some, None}
 use Rattle.std.specs.Option.{option_map_or}
 use Rattle.std.specs.List.{AllByRecursion}
 use Rattle.std.proofs.lemmas.Bool.{ltb-false, le-ltb}
-use Rattle.hac_model.specs.Tree.Events.{apply, changed_at, edited, indexed, is_bare, next_dirty, removed}
+use Rattle.hac_model.specs.Tree.Events.{apply, changed_at, edited, indexed, is_empty_at, next_dirty, removed}
 use Rattle.hac_model.specs.Tree.Limits.{directory_count, passed_limit, text_size, file_bytes}
 use Rattle.hac_model.specs.Tree.{is_directory, is_linkable, is_mount, is_symlink}
 use Rattle.hac_model.specs.Tree.Valid.{IsLayout}
@@ -60,5 +60,5 @@ removed-passes s n h bare =
       numbers = old.numbers;
     })
 
-pub bare-passes : (s : State) (dir : ℕ) → IsLayout s → is_bare s.entries dir ≡ true → passed_limit (apply s (Rmdir dir)) ≡ None
+pub bare-passes : (s : State) (dir : ℕ) → IsLayout s → is_empty_at s.entries dir ≡ true → passed_limit (apply s (Rmdir dir)) ≡ None
 bare-passes s dir h bare = removed-passes s dir h (bare-all s.entries dir bare)

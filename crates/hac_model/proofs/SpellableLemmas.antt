@@ -21,7 +21,7 @@ use Rattle.hac_model.specs.Tree.Limits.{mount_count, semantic_count}
 use Rattle.hac_model.specs.Tree.Links.{answers_at, parent_of}
 use Rattle.hac_model.specs.Tree.Listing.{is_before}
 use Rattle.hac_model.specs.Tree.Mounting.{are_documents, are_documents_few, are_told, do_names_rise, do_rise_from, is_document_of, is_told}
-use Rattle.hac_model.specs.Tree.Mounts.{in_order, is_kept, put_term, terms_in, terms_in_use, terms_to_ask}
+use Rattle.hac_model.specs.Tree.Mounts.{terms_in_order, is_kept, put_term, terms_in, terms_in_use, terms_to_ask}
 use Rattle.hac_model.specs.Tree.Names.{is_name, is_name_byte}
 use Rattle.hac_model.specs.Tree.{is_document, is_document_at, is_mount}
 use Rattle.hac_model.specs.Tree.Valid.{AsksWell, IsLayout, IsValid, RiseFrom}
@@ -132,9 +132,9 @@ put-few term (first ∷ terms) =
       ]
     ]
 
-order-few : (terms : List Term) → length (in_order terms) ≤ length terms
+order-few : (terms : List Term) → length (terms_in_order terms) ≤ length terms
 order-few [] = omega arith
-order-few (term ∷ terms) = omega (arith, order-few terms, put-few term (in_order terms))
+order-few (term ∷ terms) = omega (arith, order-few terms, put-few term (terms_in_order terms))
 
 terms-few : (q : Formula ℕ) → length (terms_of q) ≤ term_count q
 terms-few (query.Term term) = omega arith
@@ -195,7 +195,7 @@ module _ (s : State) (query : Formula ℕ) (h : IsLayout s) (may : may_ask s que
     where
       few : (b : Bool) → length (if b then unanswered query (answers_at s e.number) else []) ≤ 64 * (if b then 1 else 0)
       few true =
-          let terms = filter-few (λ term. not (is_kept (answers_at s e.number) term)) (in_order (terms_of query)) in
+          let terms = filter-few (λ term. not (is_kept (answers_at s e.number) term)) (terms_in_order (terms_of query)) in
           omega (arith, terms, order-few (terms_of query), query-few s query may)
       few false = omega arith
 

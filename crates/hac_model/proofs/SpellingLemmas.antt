@@ -13,7 +13,7 @@ use Rattle.hac_model.specs.Script.LineWords.{after_first_run, after_space, first
 use Rattle.hac_model.specs.Script.Numbers.{are_steps, is_number, is_tick}
 use Rattle.hac_model.specs.Script.SessionWords.{main_session, named_session, names_session, session_name, session_words}
 use Rattle.hac_model.specs.Script.SpaceNames.{is_space_byte, is_space_name}
-use Rattle.hac_model.specs.Script.Lines.{Item, alone, called_with, command_with, each_path, find_of, is_put, is_spelled, is_spelled_line, item_of, item_taken, limited_target, limited_text, line_with, ln_of, maybe_path, named_command, of_two_paths, one_path, only_path, only_word, path_and_query, put_at, put_of, put_words, smount_of, taken_of, tick_of, two_paths, write_of}
+use Rattle.hac_model.specs.Script.Lines.{Item, alone, called_with, command_with, each_path, find_of, is_put, is_spelled, is_spelled_line, item_of, item_taken, limited_target, limited_text, line_with, ln_of, maybe_path, named_command, of_two_paths, one_path, only_path, only_word, path_and_query, put_to, put_of, put_words, smount_of, taken_of, tick_of, two_paths, write_of}
 use Rattle.hac_model.specs.Script.PathWords.{has_long_part, is_bad, is_path_word, is_target, untested_word, word_of}
 use Rattle.hac_model.specs.Tree.Paths.{are_names}
 use Rattle.hac_model.specs.Query.Formula.{Formula}
@@ -239,7 +239,7 @@ spells_named name arguments =
     (λ _. cond_both (bytes_eq name (codes "checkpoint")) _ _ P (λ _. spells_alone Checkpoint arguments refl)
     (λ _. spells_bad_line)))))))))))))))))))))))))))
 
-spells_put_at : (word : List ℕ) (taken : Option Taken) → Spells (put_at word taken)
+spells_put_at : (word : List ℕ) (taken : Option Taken) → Spells (put_to word taken)
 unfolding Spells
 spells_put_at word (Some (Whole bytes)) =
     spells-then (word_of word) _ (λ path named.

@@ -16,7 +16,7 @@ use Rattle.hac_model.specs.Query.Terms.{is_same_term, is_term_before}
 use Rattle.hac_model.specs.Tree.Events.{are_directories, may_ask}
 use Rattle.hac_model.specs.Tree.Depends.{named_in}
 use Rattle.hac_model.specs.Tree.Mounting.{answers_to}
-use Rattle.hac_model.specs.Tree.Mounts.{in_order, is_kept, kept_for, put_term, terms_in, terms_in_use, terms_to_ask}
+use Rattle.hac_model.specs.Tree.Mounts.{terms_in_order, is_kept, kept_for, put_term, terms_in, terms_in_use, terms_to_ask}
 use Rattle.hac_model.specs.Tree.Valid.{AsksWell, TermsRise}
 use Rattle.hac_model.specs.declared.limits.TheConstants.{NESTING_LIMIT, QUERY_LIMIT, TERMS_LIMIT}
 use Rattle.hac_model.specs.declared.states.Body.{Body}
@@ -140,9 +140,9 @@ put-chain last a (first ∷ ts) after h =
       ] refl)
     ] refl
 
-pub order-chain : (ts : List Term) → TermsChain None (in_order ts)
+pub order-chain : (ts : List Term) → TermsChain None (terms_in_order ts)
 order-chain [] = tt
-order-chain (t ∷ ts) = put-chain None t (in_order ts) refl (order-chain ts)
+order-chain (t ∷ ts) = put-chain None t (terms_in_order ts) refl (order-chain ts)
 
 pub all-put : (P : Term → Type 0) (a : Term) (ts : List Term) → P a → AllByRecursion P ts → AllByRecursion P (put_term a ts)
 all-put P a [] p h = (p, tt)
@@ -155,9 +155,9 @@ all-put P a (first ∷ ts) p h =
       ]
     ]
 
-pub all-order : (P : Term → Type 0) (ts : List Term) → AllByRecursion P ts → AllByRecursion P (in_order ts)
+pub all-order : (P : Term → Type 0) (ts : List Term) → AllByRecursion P ts → AllByRecursion P (terms_in_order ts)
 all-order P [] h = tt
-all-order P (t ∷ ts) h = all-put P t (in_order ts) h.0 (all-order P ts h.1)
+all-order P (t ∷ ts) h = all-put P t (terms_in_order ts) h.0 (all-order P ts h.1)
 
 -- the term is one of these
 abbrev pub is_of : List Term → Term → Bool
@@ -187,16 +187,16 @@ put-of a (first ∷ ts) term h =
     same even (inl own) = or-left (is_same_term first term) (is_of ts term) (ap (λ (t : Term). is_same_term t term) (sym even) ∙ own)
     same even (inr other) = other
 
-pub order-of : (ts : List Term) → AllByRecursion (λ t. is_of (in_order ts) t ≡ true) ts
+pub order-of : (ts : List Term) → AllByRecursion (λ t. is_of (terms_in_order ts) t ≡ true) ts
 order-of [] = tt
 order-of (t ∷ ts) = (
-  put-of t (in_order ts) t (or-left (is_same_term t t) (is_of (in_order ts) t) (same-own t)),
+  put-of t (terms_in_order ts) t (or-left (is_same_term t t) (is_of (terms_in_order ts) t) (same-own t)),
   all-weaker-of ts (order-of ts),
 )
   where
-    all-weaker-of : (us : List Term) → AllByRecursion (λ u. is_of (in_order ts) u ≡ true) us → AllByRecursion (λ u. is_of (put_term t (in_order ts)) u ≡ true) us
+    all-weaker-of : (us : List Term) → AllByRecursion (λ u. is_of (terms_in_order ts) u ≡ true) us → AllByRecursion (λ u. is_of (put_term t (terms_in_order ts)) u ≡ true) us
     all-weaker-of [] h = tt
-    all-weaker-of (u ∷ us) h = (put-of t (in_order ts) u (or-right (is_same_term t u) (is_of (in_order ts) u) h.0), all-weaker-of us h.1)
+    all-weaker-of (u ∷ us) h = (put-of t (terms_in_order ts) u (or-right (is_same_term t u) (is_of (terms_in_order ts) u) h.0), all-weaker-of us h.1)
 
 -- What was told.
 

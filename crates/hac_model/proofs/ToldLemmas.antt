@@ -10,7 +10,7 @@ use Rattle.hac_model.specs.Query.Queries.{terms_of}
 use Rattle.hac_model.specs.Query.Terms.{is_same_term, is_term_before}
 use Rattle.hac_model.specs.Tree.Asking.{put_answer, unanswered, with_answers}
 use Rattle.hac_model.specs.Tree.Mounting.{answers_to}
-use Rattle.hac_model.specs.Tree.Mounts.{in_order, is_kept, kept_for}
+use Rattle.hac_model.specs.Tree.Mounts.{terms_in_order, is_kept, kept_for}
 use Rattle.hac_model.specs.Tree.Valid.{TermsRise}
 use Rattle.hac_model.specs.declared.states.Answer.{Answer}
 use Rattle.hac_model.specs.declared.terms.Term.{Term}
@@ -188,8 +188,8 @@ told-none kept (t ∷ ts) (numbers ∷ told) h = (not-true (is_kept kept t) h.0,
 pub told-rise : (query : Formula ℕ) (answers : List Answer) (told : List (List ℕ)) → TermsRise None answers → TermsRise None (with_answers (answers_to (unanswered query answers) told) answers)
 told-rise query answers told h =
     with-rise (answers_to (unanswered query answers) told) answers
-    (answers-differ (unanswered query answers) told (filter-differ (λ t. not (is_kept answers t)) (in_order (terms_of query)) (chain-differ None (in_order (terms_of query)) (order-chain (terms_of query)))))
-    (told-none answers (unanswered query answers) told (unanswered-none (is_kept answers) (in_order (terms_of query)))) h
+    (answers-differ (unanswered query answers) told (filter-differ (λ t. not (is_kept answers t)) (terms_in_order (terms_of query)) (chain-differ None (terms_in_order (terms_of query)) (order-chain (terms_of query)))))
+    (told-none answers (unanswered query answers) told (unanswered-none (is_kept answers) (terms_in_order (terms_of query)))) h
 
 -- and are sound, and those that were kept stay
 pub told-sound : (P : Answer → Type 0) (query : Formula ℕ) (answers : List Answer) (told : List (List ℕ)) → AllByRecursion P (answers_to (unanswered query answers) told) → AllByRecursion P answers → AllByRecursion P (with_answers (answers_to (unanswered query answers) told) answers)
@@ -200,7 +200,7 @@ told-still query answers told term h = with-kept (answers_to (unanswered query a
 
 -- each term of the query has an answer then
 pub told-kept : (query : Formula ℕ) (answers : List Answer) (told : List (List ℕ)) → length told ≡ length (unanswered query answers) → AllByRecursion (λ term. is_kept (with_answers (answers_to (unanswered query answers) told) answers) term ≡ true) (terms_of query)
-told-kept query answers told even = all-weaker (λ term. is_of (in_order (terms_of query)) term ≡ true) (λ term. is_kept (with_answers (answers_to (unanswered query answers) told) answers) term ≡ true) (terms_of query) each (order-of (terms_of query))
+told-kept query answers told even = all-weaker (λ term. is_of (terms_in_order (terms_of query)) term ≡ true) (λ term. is_kept (with_answers (answers_to (unanswered query answers) told) answers) term ≡ true) (terms_of query) each (order-of (terms_of query))
   where
     left-of : (ts : List Term) (term : Term) → is_kept answers term ≡ false → is_of ts term ≡ true → is_of (filter (λ t. not (is_kept answers t)) ts) term ≡ true
     left-of [] term none h = absurd cc
@@ -216,8 +216,8 @@ told-kept query answers told even = all-weaker (λ term. is_of (in_order (terms_
           ])
         ] refl h
 
-    each : (term : Term) → is_of (in_order (terms_of query)) term ≡ true → is_kept (with_answers (answers_to (unanswered query answers) told) answers) term ≡ true
+    each : (term : Term) → is_of (terms_in_order (terms_of query)) term ≡ true → is_kept (with_answers (answers_to (unanswered query answers) told) answers) term ≡ true
     each term inside = elim (is_kept answers term) as (λ b. is_kept answers term ≡ b → is_kept (with_answers (answers_to (unanswered query answers) told) answers) term ≡ true) [
       | true ↦ (λ kept. told-still query answers told term kept)
-      | false ↦ (λ none. with-kept (answers_to (unanswered query answers) told) answers term (or-left (is_kept (answers_to (unanswered query answers) told) term) (is_kept answers term) (answers-kept (unanswered query answers) told term even (left-of (in_order (terms_of query)) term none inside))))
+      | false ↦ (λ none. with-kept (answers_to (unanswered query answers) told) answers term (or-left (is_kept (answers_to (unanswered query answers) told) term) (is_kept answers term) (answers-kept (unanswered query answers) told term even (left-of (terms_in_order (terms_of query)) term none inside))))
     ] refl

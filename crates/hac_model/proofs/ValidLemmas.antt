@@ -5,7 +5,7 @@ use Rattle.std.specs.Option.{option_map, option_map_or}
 use Rattle.std.specs.List.{AllByRecursion}
 use Rattle.std.proofs.lemmas.Bool.{and_from, and_parts, eqb-false, eqb-true, not-true}
 use Rattle.hac_model.specs.Tree.Asking.{are_all_told, with_told}
-use Rattle.hac_model.specs.Tree.Events.{added, asking, can_have_mark, changed_in, changed_at, edited, forgetting, forgotten, indexed, is_bare, is_free, is_inside, is_made_holder, is_possible, is_unreferenced, marked, may_ask, may_mark, plain_body, removed, reseated, rewritten, is_placed, is_vacant}
+use Rattle.hac_model.specs.Tree.Events.{added, asking, can_have_mark, changed_in, changed_at, edited, forgetting, forgotten, indexed, is_empty_at, is_free, is_inside, is_made_holder, is_possible, is_unreferenced, marked, may_ask, may_mark, plain_body, removed, reseated, rewritten, is_placed, is_vacant}
 use Rattle.hac_model.specs.Tree.Depends.{cycle_of_mark, cycle_of_move, cycle_over}
 use Rattle.hac_model.specs.Query.Formula.{Formula}
 use Rattle.hac_model.specs.Tree.Limits.{are_answers_few, first_passed, is_text, passed_limit, file_bytes}
@@ -181,10 +181,10 @@ leaf-bare s n h leaf = all-weaker (λ e. IsTrue (is_in_place s.entries e)) (λ e
     cc) h.places
 
 -- nor in a bare directory
-pub bare-all : (es : List Entry) (n : ℕ) → is_bare es n ≡ true → AllByRecursion (λ e. n ≡ e.parent → ⊥) es
+pub bare-all : (es : List Entry) (n : ℕ) → is_empty_at es n ≡ true → AllByRecursion (λ e. n ≡ e.parent → ⊥) es
 bare-all [] n h = tt
 bare-all (e ∷ es) n h =
-    let parts = and_parts (not (e.parent == n)) (is_bare es n) h in
+    let parts = and_parts (not (e.parent == n)) (is_empty_at es n) h in
     let other : (e.parent == n) ≡ false = not-true (e.parent == n) parts.0 in
     (λ same. eqb-false e.parent n other (sym same), bare-all es n parts.1)
 
@@ -375,11 +375,11 @@ move-parts s entry dir name h =
     let own = and_parts (is_some (entry_at s.entries entry)) (not (is_document_at s.entries entry)) free.0 in
     (own.0, free.1, not-true (is_inside s dir entry) there.1, none_from (cycle_of_move s entry dir) way.0, not-true (is_document_at s.entries entry) own.1)
 
-pub rmdir-parts : (s : State) (dir : ℕ) → is_possible s (Rmdir dir) ≡ true → (is_made_directory s.entries dir ≡ true) × (is_bare s.entries dir ≡ true) × (is_unreferenced s dir ≡ true) × (is_busy s.sessions dir ≡ false) × (is_mount_at s.entries dir ≡ false)
+pub rmdir-parts : (s : State) (dir : ℕ) → is_possible s (Rmdir dir) ≡ true → (is_made_directory s.entries dir ≡ true) × (is_empty_at s.entries dir ≡ true) × (is_unreferenced s dir ≡ true) × (is_busy s.sessions dir ≡ false) × (is_mount_at s.entries dir ≡ false)
 rmdir-parts s dir h =
     let clear = and_parts (is_unreferenced s dir && not (is_busy s.sessions dir)) (is_placed s (Rmdir dir)) h in
     let named = and_parts (is_unreferenced s dir) (not (is_busy s.sessions dir)) clear.0 in
-    let bare = and_parts (is_made_holder s dir) (is_bare s.entries dir) clear.1 in
+    let bare = and_parts (is_made_holder s dir) (is_empty_at s.entries dir) clear.1 in
     let made = made-parts s dir bare.0 in
     (made.0, bare.1, named.0, not-true (is_busy s.sessions dir) named.1, made.1)
 

@@ -9,7 +9,7 @@ use Rattle.hac_model.specs.Query.Queries.{terms_of}
 use Rattle.hac_model.specs.Query.Terms.{is_term_before}
 use Rattle.hac_model.specs.Tree.Links.{query_at}
 use Rattle.hac_model.specs.Tree.Mounting.{answers_to}
-use Rattle.hac_model.specs.Tree.Mounts.{in_order, put_term, terms_in_use}
+use Rattle.hac_model.specs.Tree.Mounts.{terms_in_order, put_term, terms_in_use}
 use Rattle.hac_model.specs.Tree.Valid.{NumbersRise}
 use Rattle.hac_model.specs.Tree.{entry_at, query_in}
 use Rattle.hac_model.specs.declared.states.Answer.{Answer}
@@ -28,8 +28,8 @@ chain-order : (last : Option Term) (ts : List Term) → TermsChain last ts → A
 chain-order last [] h = tt
 chain-order last (t ∷ ts) h = (h.0, chain-order (Some t) ts h.1)
 
-pub in-order : (ts : List Term) → AreTermsInOrder None (in_order ts)
-in-order ts = chain-order None (in_order ts) (order-chain ts)
+pub in-order : (ts : List Term) → AreTermsInOrder None (terms_in_order ts)
+in-order ts = chain-order None (terms_in_order ts) (order-chain ts)
 
 -- of two terms one at most comes before the other
 before-once : (a b : Term) → is_term_before a b ≡ true → is_term_before b a ≡ false
@@ -92,10 +92,10 @@ module _ (a : Term) where
 pub record IsOrdering (all left ordered : List Term) : Type 0 where
   pub done : List Term
   pub split : left ++ done ≡ all
-  pub order : ordered ≡ in_order done
+  pub order : ordered ≡ terms_in_order done
 
-pub ordering-ends : (all ordered : List Term) → IsOrdering all [] ordered → ordered ≡ in_order all
-ordering-ends all ordered h = h.order ∙ ap in_order h.split
+pub ordering-ends : (all ordered : List Term) → IsOrdering all [] ordered → ordered ≡ terms_in_order all
+ordering-ends all ordered h = h.order ∙ ap terms_in_order h.split
 
 pub ordering-goes : (all left rest ordered new : List Term) (term : Term) → IsOrdering all left ordered → left ≡ rest ++ term ∷ [] → new ≡ put_term term ordered → IsOrdering all rest new
 ordering-goes all left rest ordered new term h is put = record {

@@ -5,7 +5,7 @@ ghost use Rattle.hac_model.specs.Query.Queries.{terms_of};
 ghost use Rattle.hac_model.specs.Query.Terms.{is_term_before};
 ghost use Rattle.hac_model.specs.Tree.Asking.{unanswered};
 ghost use Rattle.hac_model.specs.Tree.Mounting.{answers_to};
-ghost use Rattle.hac_model.specs.Tree.Mounts.{in_order, put_term};
+ghost use Rattle.hac_model.specs.Tree.Mounts.{terms_in_order, put_term};
 ghost use Rattle.hac_model.specs.Tree.Valid.{TermsRise};
 ghost use Rattle.kept_facts.specs.Answers.{AreTermsInOrder};
 
@@ -29,16 +29,16 @@ pub fn unanswered(
 
 /// The terms of a query in order, each once.
 pub fn ordered_terms(alloc: Global, query: &Query<Number>) -> Result<Vec<Term>, Memory>
-    ensures { IfOk result (λ terms. terms.items ≡ in_order (terms_of query.now)) }
+    ensures { IfOk result (λ terms. terms.items ≡ terms_in_order (terms_of query.now)) }
 {
     let mut terms = Vec::new(alloc);
     push_terms(&mut terms, query)?;
-    in_order(alloc, terms)
+    terms_in_order(alloc, terms)
 }
 
 /// The terms in order, each once.
-pub fn in_order(alloc: Global, mut terms: Vec<Term>) -> Result<Vec<Term>, Memory>
-    ensures { IfOk result (λ ordered. ordered.items ≡ in_order terms.items) }
+pub fn terms_in_order(alloc: Global, mut terms: Vec<Term>) -> Result<Vec<Term>, Memory>
+    ensures { IfOk result (λ ordered. ordered.items ≡ terms_in_order terms.items) }
 {
     let mut ordered = Vec::new(alloc);
     'terms: while let Some(term) = terms.pop() {

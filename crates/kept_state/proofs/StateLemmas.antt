@@ -3,7 +3,7 @@ use Rattle.std.proofs.Common.{◌≡◌, ℕ, false, List, [], ◌∷◌, map, r
 use Rattle.std.specs.Prelude.{◌&&◌, ◌||◌, not, Option, Some, None, is_some, option_and_then}
 use Rattle.std.specs.Option.{option_map, option_map_or}
 use Rattle.hac_model.specs.Tree.Bare.{bare, bare_body}
-use Rattle.hac_model.specs.Tree.Events.{apply, can_have_mark, dirty, edited, is_bare, is_free, is_inside, is_made_holder, may_ask}
+use Rattle.hac_model.specs.Tree.Events.{apply, can_have_mark, dirty, edited, is_empty_at, is_free, is_inside, is_made_holder, may_ask}
 use Rattle.hac_model.specs.Query.Formula.{Formula}
 use Rattle.hac_model.specs.Tree.Limits.{counts}
 use Rattle.hac_model.specs.Tree.Mounts.{terms_to_ask}
@@ -107,8 +107,8 @@ module _ (s t : State) (bares : bare s ≡ bare t) where
   pub same-semantic : (n : ℕ) → is_semantic s n ≡ is_semantic t n
   same-semantic n = ap (λ (o : Option (Formula ℕ)). is_some o) (same-query n)
 
-  pub same-bare : (n : ℕ) → is_bare s.entries n ≡ is_bare t.entries n
-  same-bare n = alike (λ s. is_bare s.entries n) (λ s. is_bare-bare s n)
+  pub same-bare : (n : ℕ) → is_empty_at s.entries n ≡ is_empty_at t.entries n
+  same-bare n = alike (λ s. is_empty_at s.entries n) (λ s. is_bare-bare s n)
 
   pub same-inside : (dir e : ℕ) → is_inside s dir e ≡ is_inside t dir e
   same-inside dir e = alike (λ s. is_inside s dir e) (λ s. is_inside-bare s dir e)

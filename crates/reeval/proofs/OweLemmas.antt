@@ -12,7 +12,7 @@ use Rattle.hac_model.specs.Tree.Events.{added, asking, changed_at, edited, forge
 use Rattle.hac_model.specs.Tree.Facts.{put_at}
 use Rattle.hac_model.specs.Tree.Links.{parent_of}
 use Rattle.hac_model.specs.Tree.Mounting.{answers_to, forgetting_such, is_document_of, keeping}
-use Rattle.hac_model.specs.Tree.Mounts.{in_order, is_kept, kept_for}
+use Rattle.hac_model.specs.Tree.Mounts.{terms_in_order, is_kept, kept_for}
 use Rattle.hac_model.specs.Tree.Valid.{IsLayout, IsValid}
 use Rattle.hac_model.specs.Tree.{entry_at, is_document_at, is_mount, is_mount_at, query_in}
 use Rattle.hac_model.specs.declared.marks.Kind.{Kind}
@@ -214,7 +214,7 @@ gained-new kept asked told (e ∷ es) n =
   where
     own : AreNew (kept e.number) (answers_to (asked_by kept asked e) told)
     own = elim (is_mount e.body) as (λ b. AreNew (kept e.number) (answers_to (if b then unanswered asked (kept e.number) else []) told)) [
-      | true ↦ unanswered-new (kept e.number) (in_order (terms_of asked)) told
+      | true ↦ unanswered-new (kept e.number) (terms_in_order (terms_of asked)) told
       | false ↦ tt
     ]
 

@@ -12,7 +12,7 @@ use Rattle.hac_model.specs.Script.LineWords.{first_word, after_space}
 use Rattle.hac_model.specs.Script.Numbers.{is_tick}
 use Rattle.hac_model.specs.Script.SessionWords.{session_words}
 use Rattle.hac_model.specs.Script.SpaceNames.{is_space_name}
-use Rattle.hac_model.specs.Script.Lines.{Item, alone, called_with, command_with, each_path, find_of, is_put, is_spelled, limited_target, limited_text, line_with, ln_of, maybe_path, named_command, of_two_paths, one_path, only_path, only_word, path_and_query, put_at, put_of, put_words, smount_of, tick_of, two_paths, write_of}
+use Rattle.hac_model.specs.Script.Lines.{Item, alone, called_with, command_with, each_path, find_of, is_put, is_spelled, limited_target, limited_text, line_with, ln_of, maybe_path, named_command, of_two_paths, one_path, only_path, only_word, path_and_query, put_to, put_of, put_words, smount_of, tick_of, two_paths, write_of}
 use Rattle.hac_model.specs.Script.PathWords.{is_bad, word_of}
 use Rattle.hac_model.specs.Query.Formula.{Formula}
 use Rattle.hac_model.specs.Query.QueryReading.{read_query}
@@ -219,7 +219,7 @@ gives_named name arguments =
     (λ _. cond_both (bytes_eq name (codes "checkpoint")) _ _ P (λ _. gives_alone Checkpoint arguments tt)
     (λ _. gives_bad_line)))))))))))))))))))))))))))
 
-gives_put_at : (word : List ℕ) (taken : Option Taken) → Gives (put_at word taken)
+gives_put_at : (word : List ℕ) (taken : Option Taken) → Gives (put_to word taken)
 unfolding Gives
 gives_put_at word (Some (Whole bytes)) =
     gives-then (word_of word) _ (λ path named.

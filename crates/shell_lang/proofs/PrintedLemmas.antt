@@ -17,7 +17,7 @@ use Rattle.hac_model.specs.Query.QueryText.{referred_by, query_text}
 use Rattle.hac_model.specs.Script.{due, first_items, script}
 use Rattle.hac_model.specs.Script.CommandTexts.{command_text, line_text, number_part, path_part, put_bytes, query_part, quoted_part, session_line, word_text}
 use Rattle.hac_model.specs.Script.LineWords.{first_word, is_word_end}
-use Rattle.hac_model.specs.Script.Lines.{Item, alone, asked, called_with, command_with, is_put, is_quiet, is_spelled, is_spelled_word, item_of, items_of, limited_text, line_with, maybe_path, named_command, put_at, put_length, put_of, put_words, taken_of}
+use Rattle.hac_model.specs.Script.Lines.{Item, alone, asked, called_with, command_with, is_put, is_quiet, is_spelled, is_spelled_word, item_of, items_of, limited_text, line_with, maybe_path, named_command, put_to, put_length, put_of, put_words, taken_of}
 use Rattle.hac_model.specs.Script.Puts.{came}
 use Rattle.hac_model.specs.Script.PathWords.{is_target}
 use Rattle.hac_model.specs.Script.SessionWords.{main_session, named_session, names_session, session_words}
@@ -129,7 +129,7 @@ put-printed path text is fits =
           ∙ ap asked words ∙ ap (λ (n : ℕ). Some n) (decimal_is_IsNumeral (length text) small).1;
       reads = ap (λ (t : Option Taken). command_with (codes "put" ++ arguments) t) taken
           ∙ ap (λ (r : Result (List ℕ × List ℕ) Refusal). r >>= λ word. called_with word.0 word.1 (Some (Whole text))) first
-          ∙ ap (λ (r : Result (List ℕ × List ℕ) Refusal). r >>= λ w. put_at w.0 (Some (Whole text))) words
+          ∙ ap (λ (r : Result (List ℕ × List ℕ) Refusal). r >>= λ w. put_to w.0 (Some (Whole text))) words
           ∙ ap (λ (r : Result PathWord Refusal). r >>= λ word. limited_text text >>= λ bytes. Ok (Write word bytes)) (word_text-read path known)
           ∙ ap (λ (t : Bool). (if t then Ok text else Err (Limit limit.Text)) >>= λ bytes. Ok (Write path bytes)) fits;
     }

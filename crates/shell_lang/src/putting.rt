@@ -2,7 +2,7 @@
 ghost use Rattle.std.specs.Prelude.{◌≡◌, codes, true, IfOk};
 ghost use Rattle.std.specs.Str.{bytes_eq};
 ghost use Rattle.hac_model.specs.Run.Answers.{Answers, AnswersSeen};
-ghost use Rattle.hac_model.specs.Script.Lines.{asked, is_put, put_at, put_length, put_of};
+ghost use Rattle.hac_model.specs.Script.Lines.{asked, is_put, put_to, put_length, put_of};
 ghost use Rattle.hac_model.specs.Script.Lines.{put_words};
 ghost use Rattle.hac_model.specs.Script.Numbers.{is_number};
 
@@ -67,11 +67,11 @@ pub fn parse_put(alloc: Global, arguments: &[u8], taken: Option<Taken>) -> Resul
     ensures { Answers result (put_of arguments.now taken) }
 {
     let (path, _) = put_words(alloc, arguments)?;
-    put_at(alloc, &path, taken)
+    put_to(alloc, &path, taken)
 }
 
-fn put_at(alloc: Global, word: &[u8], taken: Option<Taken>) -> Result<Command, Deny>
-    ensures { Answers result (put_at word.now taken) }
+fn put_to(alloc: Global, word: &[u8], taken: Option<Taken>) -> Result<Command, Deny>
+    ensures { Answers result (put_to word.now taken) }
 {
     match taken {
         Some(Taken::Whole(bytes)) => {

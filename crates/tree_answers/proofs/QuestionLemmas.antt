@@ -14,7 +14,7 @@ use Rattle.hac_model.specs.Tree.Bare.{bare, bare_body}
 use Rattle.hac_model.specs.Tree.Events.{edited}
 use Rattle.hac_model.specs.Tree.Limits.{mount_count}
 use Rattle.hac_model.specs.Tree.Links.{answers_at}
-use Rattle.hac_model.specs.Tree.Mounts.{in_order}
+use Rattle.hac_model.specs.Tree.Mounts.{terms_in_order}
 use Rattle.hac_model.specs.Tree.Mounting.{is_among}
 use Rattle.hac_model.specs.Tree.Valid.{NumbersRise}
 use Rattle.hac_model.specs.Tree.{entry_at, is_document, is_mount}
@@ -35,7 +35,7 @@ use Rattle.tree_answers.specs.declared.asking.Question.{Question}
 
 module _ (s : State) (query : Formula ℕ) where
   abbrev terms : List Term
-  terms = in_order (terms_of query)
+  terms = terms_in_order (terms_of query)
 
   -- an entry is asked what its number is asked
   asked-entry : (e : Entry) → entry_at s.entries e.number ≡ Some e → questions_at s terms e.number ≡ questions_to e.number (asked_by (answers_at s) query e)

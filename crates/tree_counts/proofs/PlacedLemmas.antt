@@ -6,7 +6,7 @@ use Rattle.std.proofs.lemmas.Bool.{and_parts, not-true}
 use Rattle.hac_model.specs.Query.Formula.{Formula}
 use Rattle.hac_model.specs.Tree.Bare.{bare, bare_body}
 use Rattle.hac_model.specs.Tree.Facts.{bare_after}
-use Rattle.hac_model.specs.Tree.Events.{apply, asking, changed_in, changed_at, edited, forgotten, is_bare, is_made_holder, marked, removed}
+use Rattle.hac_model.specs.Tree.Events.{apply, asking, changed_in, changed_at, edited, forgotten, is_empty_at, is_made_holder, marked, removed}
 use Rattle.hac_model.specs.Tree.Limits.{counts, long_paths, file_bytes}
 use Rattle.hac_model.specs.Tree.{entry_at, is_directory, is_dirty, is_file, is_leaf_at, is_made_directory, is_mount, is_mount_at}
 use Rattle.hac_model.specs.Tree.Valid.{IsLayout}
@@ -32,7 +32,7 @@ use Rattle.entry_counts.proofs.CountingLemmas.{long-none}
 pub leaf-short : (s : State) (entry : ℕ) → IsLayout s → is_leaf_at s.entries entry ≡ true → long_paths (removed s entry).entries ≡ 0
 leaf-short s entry h is = long-none (removed s entry) (removed-passes s entry h (leaf-bare s entry h is))
 
-pub bare-short : (s : State) (dir : ℕ) → IsLayout s → is_bare s.entries dir ≡ true → long_paths (removed s dir).entries ≡ 0
+pub bare-short : (s : State) (dir : ℕ) → IsLayout s → is_empty_at s.entries dir ≡ true → long_paths (removed s dir).entries ≡ 0
 bare-short s dir h is = long-none (removed s dir) (bare-passes s dir h is)
 
 -- marks count for nothing

@@ -5,7 +5,7 @@ use Rattle.std.specs.List.{list_all}
 use Rattle.std.specs.Option.{option_map, option_map_or}
 use Rattle.std.proofs.lemmas.Bool.{and_from, and_parts, eqb-true, leb-true, le-leb, ne_eqb, not-true}
 use Rattle.std.proofs.lemmas.List.Folds.{list_all-map}
-use Rattle.hac_model.specs.Tree.Events.{changed_at, is_bare, is_inside, reseated}
+use Rattle.hac_model.specs.Tree.Events.{changed_at, is_empty_at, is_inside, reseated}
 use Rattle.hac_model.specs.Tree.Limits.{are_paths_short, names_below}
 use Rattle.hac_model.specs.Tree.Listing.{children, in_order, is_before, put_in_order}
 use Rattle.hac_model.specs.Tree.{entry_at, extends, is_mount, is_mount_at, path_of}
@@ -71,7 +71,7 @@ module _ (s : State) (h : IsLayout s) where
   -- a child of a directory below which it isn't too deep
   child-shallow : (names d m : ℕ) (e : Entry) → is_shallow names s d ≡ true → entry_at s.entries m ≡ Some e → e.parent ≡ d → (0 < names) × (is_shallow (names - 1) s m ≡ true)
   child-shallow zero d m e shallow found here =
-      let bare : not (e.parent == d) ≡ true = entry_at-all (λ e. not (e.parent == d) ≡ true) s.entries m e (all-tested (λ e. not (e.parent == d)) s.entries (and_parts (is_bare s.entries d) (not (is_mount_at s.entries d)) shallow).0) found in
+      let bare : not (e.parent == d) ≡ true = entry_at-all (λ e. not (e.parent == d) ≡ true) s.entries m e (all-tested (λ e. not (e.parent == d)) s.entries (and_parts (is_empty_at s.entries d) (not (is_mount_at s.entries d)) shallow).0) found in
       let never : false ≡ true = ap not (sym (eq-eqb e.parent d here)) ∙ bare in
       absurd cc
   child-shallow (suc names) d m e shallow found here =
@@ -100,7 +100,7 @@ module _ (s : State) (h : IsLayout s) where
   -- and leaves room for what may come
   shallow-room : (names n : ℕ) (f : Entry) → is_shallow names s n ≡ true → entry_at s.entries n ≡ Some f → names_below f.body ≤ names
   shallow-room zero n f shallow found =
-      let none : is_mount f.body ≡ false = sym (mount-at n f found) ∙ not-true (is_mount_at s.entries n) (and_parts (is_bare s.entries n) (not (is_mount_at s.entries n)) shallow).1 in
+      let none : is_mount f.body ≡ false = sym (mount-at n f found) ∙ not-true (is_mount_at s.entries n) (and_parts (is_empty_at s.entries n) (not (is_mount_at s.entries n)) shallow).1 in
       omega (arith, ap (λ (b : Bool). cond {A = ℕ} b 1 0) none)
   shallow-room (suc names) n f shallow found = elim (is_mount f.body) as (λ b. cond {A = ℕ} b 1 0 ≤ suc names) [ true ↦ omega arith | false ↦ omega arith ]
 
@@ -124,7 +124,7 @@ module _ (s : State) (h : IsLayout s) where
   -- where all have room it isn't too deep
   few-shallow : (names d : ℕ) → HasRoom names d → is_shallow names s d ≡ true
   few-shallow zero d few =
-      and_from (is_bare s.entries d) (not (is_mount_at s.entries d))
+      and_from (is_empty_at s.entries d) (not (is_mount_at s.entries d))
       (all_pass (λ e. not (e.parent == d)) s.entries (all-entries (λ e. not (e.parent == d) ≡ true) 0 s.entries s.next h.numbers (λ e found.
       ap not (ne_eqb e.parent d (λ here. let never : 1 + names_below e.body ≤ 0 = few 1 e found (e, found, here) in omega (arith, never))))))
       (ap not (no-mount d few))

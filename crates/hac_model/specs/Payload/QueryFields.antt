@@ -92,10 +92,10 @@ tokens_at version (suc k) (nots ∷ wanted) terms letters bytes =
     tokens_at version k room.wanted room.terms room.letters first.1 >>= λ others.
     Ok (first.0 ∷ others.0, others.1)
 
--- the first two queries joined
-abbrev pub joined : (Formula ℕ → Formula ℕ → Formula ℕ) → List (Formula ℕ) → List (Formula ℕ)
-joined join (left ∷ right ∷ queries) = join left right ∷ queries
-joined join queries = []
+-- the first two queries two_joined
+abbrev pub two_joined : (Formula ℕ → Formula ℕ → Formula ℕ) → List (Formula ℕ) → List (Formula ℕ)
+two_joined join (left ∷ right ∷ queries) = join left right ∷ queries
+two_joined join queries = []
 
 -- a part put in front of queries: it takes those that it joins
 abbrev pub put : Token → List (Formula ℕ) → List (Formula ℕ)
@@ -103,8 +103,8 @@ put (Term term) queries = query.Term term ∷ queries
 put (Dir dir) queries = query.Dir dir ∷ queries
 put Not [] = []
 put Not (q ∷ queries) = query.Not q ∷ queries
-put And queries = joined query.And queries
-put Or queries = joined query.Or queries
+put And queries = two_joined query.And queries
+put Or queries = two_joined query.Or queries
 
 -- the queries that parts make in front of others
 unfoldable pub built : List Token → List (Formula ℕ) → List (Formula ℕ)

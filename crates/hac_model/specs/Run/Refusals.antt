@@ -4,7 +4,7 @@ use Rattle.std.specs.Option.{option_map, option_map_or}
 use Rattle.hac_model.specs.Run.Answers.{first_cause}
 use Rattle.hac_model.specs.Run.Given.{no_answers}
 use Rattle.hac_model.specs.Tree.Depends.{cycle_of_mark, cycle_of_move, cycle_over, referrers}
-use Rattle.hac_model.specs.Tree.Events.{apply_all, dirty, is_bare, is_inside}
+use Rattle.hac_model.specs.Tree.Events.{apply_all, dirty, is_empty_at, is_inside}
 use Rattle.hac_model.specs.Tree.Limits.{are_answers_few, counts, first_passed, layout_limits, passed_limit}
 use Rattle.hac_model.specs.Tree.Mounting.{are_documents_few, mounted, synced}
 use Rattle.hac_model.specs.Tree.Links.{has, is_permanent, is_prohibited, is_semantic, parent_of, transient_at}
@@ -54,7 +54,7 @@ under_cause s entry (Free dir name) = if is_inside s dir entry then Some (Under 
 
 -- a directory to be removed isn't empty
 abbrev pub filled_cause : State → ℕ → Option Refusal
-filled_cause s dir = if is_bare s.entries dir then None else Some (NotEmpty (path_of s dir))
+filled_cause s dir = if is_empty_at s.entries dir then None else Some (NotEmpty (path_of s dir))
 
 -- a symbolic link is wanted
 abbrev pub not_link_cause : State → ℕ → Option Refusal

@@ -77,17 +77,17 @@ abbrev mutual
   given_by (word ∷ words) =
       if ends_options word then Some (names_alone words)
       else (if is_new word then option_map with_new (given_by words)
-      else (if is_tick_word word then given_behind with_tick words
+      else (if is_tick_word word then given_with_value with_tick words
       else (if begins_tick word then option_map (with_tick (drop 7 word)) (given_by words)
-      else (if is_make_word word then given_behind with_make words
+      else (if is_make_word word then given_with_value with_make words
       else (if begins_make word then option_map (with_make (drop 7 word)) (given_by words)
       else (if is_dashed word then None
       else option_map (with_name word) (given_by words)))))))
 
   -- the same where the first one is the value of an option
-  pub given_behind : (List ℕ → Parsed → Parsed) → List (List ℕ) → Option Parsed
-  given_behind with_value [] = None
-  given_behind with_value (word ∷ words) = if is_dashed word then None else option_map (with_value word) (given_by words)
+  pub given_with_value : (List ℕ → Parsed → Parsed) → List (List ℕ) → Option Parsed
+  given_with_value with_value [] = None
+  given_with_value with_value (word ∷ words) = if is_dashed word then None else option_map (with_value word) (given_by words)
 
 -- `--new` stands at most once
 abbrev pub fresh_of : ℕ → Option Bool
@@ -116,8 +116,8 @@ abbrev pub is_equals : ℕ → Bool
 is_equals b = b == 61
 
 -- a space's name stands before the first `=` of a word, and its file behind that
-abbrev pub space_of : List ℕ → Option Space
-space_of word =
+abbrev pub space_in_word : List ℕ → Option Space
+space_in_word word =
     let name = before_first is_equals word in
     let file = after_first is_equals word in
     if is_space_name name && nat_le 1 (length file) then Some (name, file) else None
@@ -125,7 +125,7 @@ space_of word =
 -- the spaces of words, if each word has one
 abbrev pub each_space : List (List ℕ) → Option (List Space)
 each_space [] = Some []
-each_space (word ∷ words) = option_and_then (λ space. option_map (λ spaces. space ∷ spaces) (each_space words)) (space_of word)
+each_space (word ∷ words) = option_and_then (λ space. option_map (λ spaces. space ∷ spaces) (each_space words)) (space_in_word word)
 
 -- no two of the names are the same
 abbrev pub names_differ : List (List ℕ) → Bool
@@ -141,8 +141,8 @@ abbrev pub spaces_of : List (List ℕ) → Option (List Space)
 spaces_of words = option_and_then (λ spaces. if may_stand spaces then Some spaces else None) (each_space words)
 
 -- what is asked for by what was given
-abbrev pub asked_by : Parsed → Option Options
-asked_by given =
+abbrev pub options_from : Parsed → Option Options
+options_from given =
     option_and_then (λ fresh. option_and_then (λ tick. option_and_then (λ make. option_and_then (λ store. option_map (λ spaces.
     record { fresh = fresh; tick = tick; make = make; store = store; spaces = spaces })
     (spaces_of (drop 1 given.names))) (store_of given.names)) (make_of given.makes)) (tick_of given.ticks)) (fresh_of given.news)
@@ -150,4 +150,4 @@ asked_by given =
 -- what words ask for, if they fit the usage: `[--new] [--tick N] [--make NUMBER] STORE [NAME=FILE]...`, with options
 -- anywhere before `--`
 unfoldable pub options : List (List ℕ) → Option Options
-options words = option_and_then asked_by (given_by words)
+options words = option_and_then options_from (given_by words)

@@ -175,22 +175,22 @@ put_words arguments = do
   if is_number length then Ok (path.0, length) else Err BadLine
 
 -- the file of a path word gets the bytes that came, or the first refusal: not all came, then the path, then their count
-abbrev pub put_at : List ℕ → Option Taken → Result Command Refusal
-put_at word (Some (Whole bytes)) = do
+abbrev pub put_to : List ℕ → Option Taken → Result Command Refusal
+put_to word (Some (Whole bytes)) = do
   path ← word_of word
   text ← limited_text bytes
   Ok (Write path text)
-put_at word (Some Dropped) = do
+put_to word (Some Dropped) = do
   path ← word_of word
   Err (Limit limit.Text)
-put_at word (Some Short) = Err ShortPut
-put_at word None = Err ShortPut
+put_to word (Some Short) = Err ShortPut
+put_to word None = Err ShortPut
 
 -- `put PATH LENGTH`, from the bytes behind `put`, given what came of the bytes behind the line
 abbrev pub put_of : List ℕ → Option Taken → Result Command Refusal
 put_of arguments taken = do
   words ← put_words arguments
-  put_at words.0 taken
+  put_to words.0 taken
 
 -- the name of the command is `put`
 abbrev pub is_put : List ℕ → Bool

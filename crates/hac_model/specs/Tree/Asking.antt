@@ -6,7 +6,7 @@ use Rattle.hac_model.specs.Query.Terms.{is_term_before}
 use Rattle.hac_model.specs.Tree.Changes.{edited}
 use Rattle.hac_model.specs.Tree.Links.{answers_at}
 use Rattle.hac_model.specs.Tree.Mounting.{answers_to, are_told}
-use Rattle.hac_model.specs.Tree.Mounts.{in_order, is_kept}
+use Rattle.hac_model.specs.Tree.Mounts.{terms_in_order, is_kept}
 use Rattle.hac_model.specs.Tree.{is_mount}
 use Rattle.hac_model.specs.declared.states.Answer.{Answer}
 use Rattle.hac_model.specs.declared.states.Body.{Body}
@@ -17,7 +17,7 @@ use Rattle.hac_model.specs.declared.terms.Term.{Term}
 
 -- the terms of a query for which no answer is among these, in order
 abbrev pub unanswered : Formula ℕ → List Answer → List Term
-unanswered query answers = filter (λ term. not (is_kept answers term)) (in_order (terms_of query))
+unanswered query answers = filter (λ term. not (is_kept answers term)) (terms_in_order (terms_of query))
 
 -- What an entry has to be asked for a query, given what each mount keeps: a mount the terms for which it keeps no
 -- answer, and any other entry nothing.

@@ -46,8 +46,8 @@ abbrev pub is_made_holder : State → ℕ → Bool
 is_made_holder s dir = is_made_directory s.entries dir && not (is_mount_at s.entries dir)
 
 -- the directory is empty
-abbrev pub is_bare : List Entry → ℕ → Bool
-is_bare entries dir = list_all (λ entry. not (entry.parent == dir)) entries
+abbrev pub is_empty_at : List Entry → ℕ → Bool
+is_empty_at entries dir = list_all (λ entry. not (entry.parent == dir)) entries
 
 -- the directory is the entry itself, or below it
 abbrev pub is_inside : State → ℕ → ℕ → Bool
@@ -106,7 +106,7 @@ is_placed s (Mark mark) = can_have_mark s mark.item mark.kind && is_semantic s m
 is_placed s (Mv entry dir name) =
     is_some (entry_at s.entries entry) && not (is_document_at s.entries entry) && is_free s dir name && not (is_inside s dir entry)
 is_placed s (Rm entry) = is_leaf_at s.entries entry
-is_placed s (Rmdir dir) = is_made_holder s dir && is_bare s.entries dir
+is_placed s (Rmdir dir) = is_made_holder s dir && is_empty_at s.entries dir
 is_placed s Step = is_some (next_dirty s.entries)
 is_placed s (Cd session dir) = is_space_name session && is_directory_at s.entries dir
 is_placed s (Smount dir name space documents told) = may_mount s dir name space documents told

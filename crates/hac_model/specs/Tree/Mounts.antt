@@ -35,10 +35,10 @@ put_term term (first ∷ terms) =
     else (if is_term_before first term then first ∷ put_term term terms else first ∷ terms)
 
 -- terms in order, each once
-abbrev pub in_order : List Term → List Term
-in_order [] = []
-in_order (term ∷ terms) = put_term term (in_order terms)
+abbrev pub terms_in_order : List Term → List Term
+terms_in_order [] = []
+terms_in_order (term ∷ terms) = put_term term (terms_in_order terms)
 
 -- what a space is asked for as it is mounted, and as its mount is synced: the terms in use, in order
 abbrev pub terms_to_ask : List Entry → List Term
-terms_to_ask entries = in_order (terms_in_use entries)
+terms_to_ask entries = terms_in_order (terms_in_use entries)

@@ -1,7 +1,7 @@
 use Rattle.std.proofs.Common.{◌≤◌, ℕ, List, length, ◌∙◌, [], None, ap, subst, sym, true}
 use Rattle.std.specs.Prelude.{IsTrue}
 use Rattle.std.proofs.lemmas.Bool.{and_parts, leb-true}
-use Rattle.hac_model.specs.Tree.Events.{apply, asking, is_bare, is_free, is_made_holder, removed}
+use Rattle.hac_model.specs.Tree.Events.{apply, asking, is_empty_at, is_free, is_made_holder, removed}
 use Rattle.hac_model.specs.Tree.Limits.{counts}
 use Rattle.hac_model.specs.declared.events.Event.{Event}
 use Rattle.hac_model.specs.declared.states.Body.TheVariants as body
@@ -22,7 +22,7 @@ without-requires-clause-short c = leaf-short c.args.tree.now.state c.in-Rm.entry
 pub without-requires-in-Rmdir-clause-short : goal.without-requires-in-Rmdir-clause-short
 without-requires-in-Rmdir-clause-short c =
     let s = c.args.tree.now.state in
-    bare-short s c.in-Rmdir.dir c.know_layout.ensures.layout (and_parts (is_made_holder s c.in-Rmdir.dir) (is_bare s.entries c.in-Rmdir.dir) (subst (λ (e : Event). IsTrue (is_seated s e)) c.in-Rmdir.is c.requires)).1
+    bare-short s c.in-Rmdir.dir c.know_layout.ensures.layout (and_parts (is_made_holder s c.in-Rmdir.dir) (is_empty_at s.entries c.in-Rmdir.dir) (subst (λ (e : Event). IsTrue (is_seated s e)) c.in-Rmdir.is c.requires)).1
 
 pub returns-in-NewFile : goal.returns-in-NewFile
 returns-in-NewFile c =
