@@ -29,5 +29,5 @@ TakesPart nots token old new taken =
 
 -- the first two queries of a pile are taken, where it has two; else it is cleared
 abbrev pub TakesTwo : List (Formula ℕ) → List (Formula ℕ) → Option (Formula ℕ × Formula ℕ) → Type 0
-TakesTwo old new None = (join : Formula ℕ → Formula ℕ → Formula ℕ) → query.joined join old ≡ new
+TakesTwo old new None = (join : Formula ℕ → Formula ℕ → Formula ℕ) → query.two_joined join old ≡ new
 TakesTwo old new (Some two) = old ≡ two.0 ∷ two.1 ∷ new
