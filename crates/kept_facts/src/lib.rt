@@ -16,4 +16,4 @@ pub use answers::{Answers, Lists, had, is_among, is_answered, put_list};
 pub use edges::edges_of;
 pub use gains::with_answers;
 pub use room::Room;
-pub use terms::{answers_to, in_order, ordered_terms, push_terms, unanswered};
+pub use terms::{answers_to, ordered_terms, push_terms, terms_in_order, unanswered};

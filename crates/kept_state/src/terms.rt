@@ -8,14 +8,14 @@ ghost use Rattle.hac_model.specs.Tree.Mounts.{terms_in_use, terms_to_ask};
 
 use file_tree::Tree;
 use hac_model::{Memory, Number, Term};
-use kept_facts::{in_order, push_terms};
+use kept_facts::{push_terms, terms_in_order};
 use std::alloc::Global;
 
 /// The terms in use, in order, each once.
 pub fn terms_to_ask(alloc: Global, tree: &Tree) -> Result<Vec<Term>, Memory>
     ensures { IfOk result (λ terms. terms.items ≡ terms_to_ask tree.now.state.entries) }
 {
-    in_order(alloc, terms_in_use(alloc, tree)?)
+    terms_in_order(alloc, terms_in_use(alloc, tree)?)
 }
 
 /// The terms of all queries, in order of number of their directories.

@@ -1,6 +1,6 @@
 use Rattle.std.proofs.Common.{vec_len}
 use Rattle.kept_facts.proofs.UseLemmas.{IsOrdering}
-use Rattle.kept_facts.proofs.terms.in_order.Given as goal
+use Rattle.kept_facts.proofs.terms.terms_in_order.Given as goal
 
 abbrev pub invariant-terms : goal.invariant-terms
 invariant-terms l = IsOrdering l.fn.terms.items l.terms.items l.ordered.items
