@@ -1,5 +1,5 @@
 -- The entries of the numbers below a number, given the entry of each.
-use Rattle.std.proofs.Common.{◌≡◌, ℕ, zero, suc, ◌+◌, ◌<◌, ◌≤◌, Bool, true, false, cond, List, [], ◌∷◌, ◌++◌, refl, ap, sym, ◌∙◌, arith, eq-eqb, inl, inr, add-one}
+use Rattle.std.proofs.Common.{◌≡◌, ℕ, zero, suc, ◌+◌, ◌<◌, ◌≤◌, Bool, true, false, cond, List, [], ◌∷◌, ◌++◌, length, refl, ap, sym, ◌∙◌, arith, eq-eqb, inl, inr, add-one, append_assoc}
 use Rattle.std.specs.Prelude.{◌==◌, not, nat_eq, filter, Option, Some, None}
 use Rattle.std.specs.Option.{option_map, option_to_list}
 use Rattle.std.proofs.lemmas.Bool.{ne_eqb, cases_lt}
@@ -9,7 +9,8 @@ use Rattle.hac_model.specs.Tree.Events.{changed_in}
 use Rattle.hac_model.specs.Tree.{entry_at}
 use Rattle.hac_model.specs.declared.states.Entry.{Entry}
 use Rattle.hac_model.proofs.ChangeLemmas.{entry_at-other, entry_at-new}
-use Rattle.file_tree.specs.Nodes.{entries_below}
+use Rattle.file_tree.specs.Shape.{entries_below}
+use Rattle.tree_nodes.proofs.OverLemmas.{Follows}
 
 -- each entry has the number under which it is found
 abbrev pub IsNumbered : (ℕ → Option Entry) → Type 0
@@ -115,3 +116,13 @@ below-removed k at other m numbered told =
           | true ↦ (λ is. ap (λ (b : Bool). cond (not b) (e ∷ []) []) is)
           | false ↦ (λ is. ap (λ (b : Bool). cond (not b) (e ∷ []) []) is)
         ] test
+
+-- the entries below a number, and those that follow
+pub below-more : (k : ℕ) (at : ℕ → Option Entry) (es : List Entry) → Follows at k es → entries_below (k + length es) at ≡ entries_below k at ++ es
+below-more k at [] follow =
+    let same : k + length {A = Entry} [] ≡ k = omega arith in
+    ap (λ (n : ℕ). entries_below n at) same ∙ sym (append-nil (entries_below k at))
+below-more k at (e ∷ es) (here, rest) =
+    let far : k + length (e ∷ es) ≡ k + 1 + length es = omega arith in
+    let one : entries_below (k + 1) at ≡ entries_below k at ++ e ∷ [] = rw add-one (ap (λ (o : Option Entry). entries_below k at ++ option_to_list o) here) in
+    ap (λ (n : ℕ). entries_below n at) far ∙ below-more (k + 1) at es rest ∙ ap (λ (xs : List Entry). xs ++ es) one ∙ append_assoc (entries_below k at) (e ∷ []) es

@@ -9,11 +9,11 @@ use Rattle.hac_model.specs.Tree.Depends.{Among}
 use Rattle.hac_model.specs.Tree.{child}
 use Rattle.hac_model.specs.declared.states.Entry.{Entry}
 use Rattle.hac_model.proofs.TreeLemmas.{child-own, child-entry}
-use Rattle.file_tree.specs.Nodes.{entry_from, entry_of, if_placed, kids_of, name_of}
-use Rattle.file_tree.specs.Search.{first_named}
+use Rattle.tree_nodes.specs.Nodes.{entry_from, entry_of, if_placed, kids_of, name_of, parent_in}
+use Rattle.tree_nodes.specs.Search.{first_named}
 use Rattle.file_tree.specs.Seen.{Seen}
-use Rattle.file_tree.specs.Shape.{IsShaped, parent_in, seen_of, state_of}
-use Rattle.file_tree.specs.declared.nodes.Node.{Node}
+use Rattle.file_tree.specs.Shape.{IsShaped, seen_of, state_of}
+use Rattle.tree_nodes.specs.declared.nodes.Node.{Node}
 use Rattle.file_tree.specs.declared.tree.Tree.TheInside.{Inside}
 use Rattle.file_tree.proofs.ReadLemmas.{seen-entry}
 

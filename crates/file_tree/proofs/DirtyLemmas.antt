@@ -27,11 +27,11 @@ use Rattle.hac_model.proofs.EventLemmas.{due, steps-due}
 use Rattle.hac_model.proofs.TreeLemmas.{entry_at-behind, entry_at-first, entry_at-low, entry_at-next, entry_at-number}
 use Rattle.hac_model.proofs.LayoutLemmas.{apply-layout}
 use Rattle.file_tree.specs.Answers.{entries_behind, is_dirty_at}
-use Rattle.file_tree.specs.Nodes.{body_from}
+use Rattle.file_tree.specs.Bodies.{body_from}
 use Rattle.file_tree.specs.Ready.{is_awaited, ready_for}
-use Rattle.file_tree.specs.declared.nodes.NewBody.{NewBody}
-use Rattle.file_tree.specs.declared.nodes.NewBody.TheVariants as new
+use Rattle.file_tree.specs.declared.bodies.NewBody.{NewBody}
 use Rattle.file_tree.specs.declared.ready.Ready.TheVariants.{Text}
+use Rattle.file_tree.specs.declared.bodies.NewBody.TheVariants as new
 
 -- the entry that is looked up is dirty
 abbrev dirty_in : Option Entry → Bool

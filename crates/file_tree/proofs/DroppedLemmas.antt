@@ -7,18 +7,19 @@ use Rattle.hac_model.specs.Tree.Links.{has}
 use Rattle.hac_model.specs.Tree.Mounting.{do_names_rise, documents_from, is_among}
 use Rattle.hac_model.specs.Tree.{is_mount_at}
 use Rattle.hac_model.specs.declared.states.Entry.{Entry}
-use Rattle.file_tree.specs.Documents.{is_dropped, numbers_for, numbers_from, unknown, with_entries, with_names}
-use Rattle.file_tree.specs.Nodes.{entry_of, has_node, kids_of, name_of}
-use Rattle.file_tree.specs.Search.{first_named}
+use Rattle.tree_nodes.specs.Documents.{is_dropped, numbers_from, unknown, with_entries, with_names}
+use Rattle.file_tree.specs.Documents.{numbers_for}
+use Rattle.tree_nodes.specs.Nodes.{entry_of, has_node, kids_of, name_of}
+use Rattle.tree_nodes.specs.Search.{first_named, NamesRise}
 use Rattle.file_tree.specs.Seen.{Seen}
-use Rattle.file_tree.specs.Shape.{HasSpare, IsShaped, NamesRise, seen_of, state_of}
+use Rattle.file_tree.specs.Shape.{HasSpare, IsShaped, seen_of, state_of}
 use Rattle.file_tree.specs.declared.ready.Ready.{Ready}
 use Rattle.file_tree.specs.declared.ready.Ready.TheVariants.{Sync}
 use Rattle.file_tree.specs.declared.tree.Tree.TheInside.{Inside}
 use Rattle.file_tree.proofs.ChildLemmas.{child-named}
-use Rattle.file_tree.proofs.FoundLemmas.{found-same, has-among}
+use Rattle.tree_nodes.proofs.FoundLemmas.{found-same, has-among}
 use Rattle.file_tree.proofs.NumberLemmas.{found-map, names-rise, number-names}
-use Rattle.file_tree.proofs.OverLemmas.{named-follow, named-low, named-same, names-same, over-same}
+use Rattle.tree_nodes.proofs.OverLemmas.{named-follow, named-low, named-same, names-same, over-same}
 use Rattle.file_tree.proofs.SyncLemmas.{documents, find, find-member, leaves, member, more}
 
 module _ (t : Inside) (h : IsShaped t) (mount : ℕ) (is : is_mount_at (state_of t).entries mount ≡ true) where

@@ -1,12 +1,9 @@
 pub mod BelowLemmas
 pub mod ReadLemmas
 pub mod StepLemmas
-pub mod SearchLemmas
 pub mod ChildLemmas
-pub mod ListLemmas
 pub mod ShapeLemmas
 pub mod StateLemmas
-pub mod TargetLemmas
 pub mod NewLemmas
 pub mod RisingLemmas
 pub mod LiveLemmas
@@ -15,8 +12,6 @@ pub mod OrderLemmas
 pub mod DirtyLemmas
 pub mod IndexedLemmas
 pub mod TreeLemmas
-pub mod OverLemmas
-pub mod FoundLemmas
 pub mod NumberLemmas
 pub mod NestLemmas
 pub mod MountLemmas

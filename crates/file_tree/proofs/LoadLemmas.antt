@@ -25,15 +25,16 @@ use Rattle.hac_model.proofs.RaisedLemmas.{raised-layout}
 use Rattle.hac_model.proofs.TreeLemmas.{Lives, child-own, directory-lives, entry_at-all, entry_at-below, entry_at-first, entry_at-low, entry_at-next, place-directory, rise-below}
 use Rattle.file_tree.specs.Answers.{is_dirty_at}
 use Rattle.file_tree.specs.Loading.{IsLoaded, IsPlaced, IsPrepared, bare_entry, is_to_load}
-use Rattle.file_tree.specs.Nodes.{entries_below, entry_of, has_node, kids_of, name_of}
-use Rattle.file_tree.specs.Search.{rank_in}
-use Rattle.file_tree.specs.Shape.{AreNested, HasSpare, IsShaped, NamesRise, parent_in, state_of}
+use Rattle.file_tree.specs.Shape.{entries_below, AreNested, HasSpare, IsShaped, state_of}
+use Rattle.tree_nodes.specs.Nodes.{entry_of, has_node, kids_of, name_of, set_at, parent_in}
+use Rattle.tree_nodes.specs.Search.{rank_in, NamesRise}
 use Rattle.file_tree.specs.declared.loading.Loading.{Loading}
 use Rattle.file_tree.specs.declared.tree.Tree.TheInside.{Inside}
 use Rattle.file_tree.proofs.ChildLemmas.{name-told, parent-told}
 use Rattle.file_tree.proofs.ReadLemmas.{entry_of-number}
 use Rattle.file_tree.proofs.RiseLemmas.{below-risen, entry_at-front, entry_at-over, rise-fresh}
-use Rattle.file_tree.proofs.ShapeLemmas.{same-or-not, told_at, tree-linked, tree-same}
+use Rattle.tree_nodes.proofs.SetLemmas.{same-or-not}
+use Rattle.file_tree.proofs.ShapeLemmas.{tree-linked, tree-same}
 use Rattle.file_tree.proofs.StateLemmas.{state_with, true-or-false}
 
 -- the entry that is looked up is dirty
@@ -146,7 +147,7 @@ module _ (next : ℕ) (all : List Entry) (layout : IsLayout (state_with Two next
     next_is = placed.next_is ∙ h.next_is;
     numbers = λ q. placed.numbers q ∙ h.numbers q;
     entries_are = λ q. entries q ∙ ap (λ (o : Option Entry). option_map bare_entry o) (sym (entry_at-more taken e q behind.1));
-    lists = tree-same next (told_at e.number (Some (bare_entry e)) at) (entry_of new.nodes) (told_at e.number e.name names) (name_of new.nodes) (told_at e.parent (insert (kids e.parent) (rank_in names e.name (kids e.parent)) e.number) kids) (kids_of new.nodes) linked
+    lists = tree-same next (set_at e.number (Some (bare_entry e)) at) (entry_of new.nodes) (set_at e.number e.name names) (name_of new.nodes) (set_at e.parent (insert (kids e.parent) (rank_in names e.name (kids e.parent)) e.number) kids) (kids_of new.nodes) linked
         (λ q. ap parent_in (placed.entries q)) (λ d q there. placed.names q) (placed.kids (h.lists.rises e.parent));
     dirty_are = λ q. placed.dirty q ∙ ap (λ (b : Bool). b || (is_dirty e.body && nat_eq e.number q)) (before_dirty q) ∙ dirty q;
   }
@@ -201,7 +202,7 @@ module _ (next : ℕ) (all : List Entry) (layout : IsLayout (state_with Two next
             absurd cc)
       ]
 
-      linked : AreNested next (told_at e.number (Some (bare_entry e)) at) (told_at e.number e.name names) (told_at e.parent (insert (kids e.parent) (rank_in names e.name (kids e.parent)) e.number) kids)
+      linked : AreNested next (set_at e.number (Some (bare_entry e)) at) (set_at e.number e.name names) (set_at e.parent (insert (kids e.parent) (rank_in names e.name (kids e.parent)) e.number) kids)
       linked = tree-linked next next at names kids e.number e.parent (bare_entry e) e.name h.lists (before e.number ∙ ap (λ (o : Option Entry). option_map bare_entry o) behind.1) behind.0 low (omega arith) directory-low refl free
 
 -- the layout of a state is that of its entries, which fit in a store of version 2 too

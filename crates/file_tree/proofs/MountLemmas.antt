@@ -12,19 +12,20 @@ use Rattle.hac_model.specs.declared.states.Entry.{Entry}
 use Rattle.hac_model.specs.declared.states.State.{State}
 use Rattle.hac_model.proofs.TreeLemmas.{rise-below}
 use Rattle.file_tree.specs.Answers.{is_dirty_at}
-use Rattle.file_tree.specs.Documents.{numbers_from, numbers_up, unknown, with_entries, with_names}
-use Rattle.file_tree.specs.Nodes.{entries_below, entry_of, has_node, kids_of, name_of}
-use Rattle.file_tree.specs.Search.{rank_in}
+use Rattle.tree_nodes.specs.Documents.{numbers_from, numbers_up, unknown, with_entries, with_names}
+use Rattle.file_tree.specs.Shape.{entries_below, AreNested, HasNoOther, HasSpare, IsShaped, seen_of, state_of}
+use Rattle.tree_nodes.specs.Nodes.{entry_of, has_node, kids_of, name_of, set_at, parent_in}
+use Rattle.tree_nodes.specs.Search.{rank_in}
 use Rattle.file_tree.specs.Seen.{Seen}
-use Rattle.file_tree.specs.Shape.{AreNested, HasNoOther, HasSpare, IsShaped, parent_in, seen_of, state_of}
 use Rattle.file_tree.specs.declared.tree.Tree.TheInside.{Inside}
-use Rattle.file_tree.proofs.BelowLemmas.{below-added, below-same}
+use Rattle.file_tree.proofs.BelowLemmas.{below-added, below-same, below-more}
 use Rattle.file_tree.proofs.ChildLemmas.{name-told, parent-told}
 use Rattle.file_tree.proofs.NestLemmas.{IsSynced, goes, tree-synced}
 use Rattle.file_tree.proofs.NumberLemmas.{numbers-none, unknown-none}
-use Rattle.file_tree.proofs.OverLemmas.{NamesFollow, below-more, dirty_in, follow-same, long, named-follow, named-low, names-same, over-clean, over-follow, over-high, over-inside, over-low}
+use Rattle.tree_nodes.proofs.OverLemmas.{NamesFollow, dirty_in, follow-same, long, named-follow, named-low, names-same, over-clean, over-follow, over-high, over-inside, over-low}
 use Rattle.file_tree.proofs.ReadLemmas.{seen-at, seen-entry}
-use Rattle.file_tree.proofs.ShapeLemmas.{same-or-not, told_at, told-here, told-there, tree-linked, tree-same}
+use Rattle.tree_nodes.proofs.SetLemmas.{same-or-not, set-here, set-there}
+use Rattle.file_tree.proofs.ShapeLemmas.{tree-linked, tree-same}
 use Rattle.file_tree.proofs.StateLemmas.{apart, entry-low, state_with, true-or-false}
 
 -- nothing is found
@@ -43,13 +44,13 @@ module _ (t : Inside) (s : Seen) (view : seen_of t ≡ s) (h : IsShaped t) (u : 
 
   -- the mount alone
   abbrev pub at : ℕ → Option Entry
-  at = told_at t.next (Some new) (entry_of t.nodes)
+  at = set_at t.next (Some new) (entry_of t.nodes)
 
   abbrev pub names : ℕ → List ℕ
-  names = told_at t.next name (name_of t.nodes)
+  names = set_at t.next name (name_of t.nodes)
 
   abbrev pub kids : ℕ → List ℕ
-  kids = told_at dir (insert (kids_of t.nodes dir) (rank_in (name_of t.nodes) name (kids_of t.nodes dir)) t.next) (kids_of t.nodes)
+  kids = set_at dir (insert (kids_of t.nodes dir) (rank_in (name_of t.nodes) name (kids_of t.nodes dir)) t.next) (kids_of t.nodes)
 
   -- what is under each number then
   pub record IsMounted : Type 0 where
@@ -57,7 +58,7 @@ module _ (t : Inside) (s : Seen) (view : seen_of t ≡ s) (h : IsShaped t) (u : 
     pub version : u.version ≡ t.version
     pub entries : (n : ℕ) → entry_of u.nodes n ≡ with_entries (documents_from (t.next + 1) t.next xs) at n
     pub named : (n : ℕ) → name_of u.nodes n ≡ with_names (documents_from (t.next + 1) t.next xs) names n
-    pub lists : (d : ℕ) → kids_of u.nodes d ≡ told_at t.next (numbers_up (t.next + 1) (length xs)) kids d
+    pub lists : (d : ℕ) → kids_of u.nodes d ≡ set_at t.next (numbers_up (t.next + 1) (length xs)) kids d
     pub numbers : (n : ℕ) → has_node u.nodes n ≡ has_node t.nodes n
 
   module _ (m : IsMounted) where
@@ -79,12 +80,12 @@ module _ (t : Inside) (s : Seen) (view : seen_of t ≡ s) (h : IsShaped t) (u : 
     pub clean-mounted : (n : ℕ) → dirty_in (entry_of u.nodes n) ≡ dirty_in (entry_of t.nodes n)
     clean-mounted n =
         ap dirty_in (m.entries n)
-        ∙ over-clean xs (t.next + 1) t.next n at (λ k high. told-there t.next (Some new) (entry_of t.nodes) k (λ same. omega arith) ∙ h.lists.above k (omega arith))
+        ∙ over-clean xs (t.next + 1) t.next n at (λ k high. set-there t.next (Some new) (entry_of t.nodes) k (λ same. omega arith) ∙ h.lists.above k (omega arith))
         ∙ (elim (same-or-not t.next n) [
           | inl same ↦
-              ap (λ (k : ℕ). dirty_in (at k)) (sym same) ∙ ap dirty_in (told-here t.next (Some new) (entry_of t.nodes))
+              ap (λ (k : ℕ). dirty_in (at k)) (sym same) ∙ ap dirty_in (set-here t.next (Some new) (entry_of t.nodes))
               ∙ ap dirty_in (sym (h.lists.above t.next (omega arith))) ∙ ap (λ (k : ℕ). dirty_in (entry_of t.nodes k)) same
-          | inr other ↦ ap dirty_in (told-there t.next (Some new) (entry_of t.nodes) n other)
+          | inr other ↦ ap dirty_in (set-there t.next (Some new) (entry_of t.nodes) n other)
         ])
 
     module _ (low : dir < t.next) (rise : do_names_rise xs ≡ true) (layout : IsLayout (mounted s.state dir name space [] xs)) where
@@ -92,13 +93,13 @@ module _ (t : Inside) (s : Seen) (view : seen_of t ≡ s) (h : IsShaped t) (u : 
       sound = subst IsLayout (sym state-mounted) layout
 
       here : entry_of u.nodes t.next ≡ Some new
-      here = low-entry t.next (omega arith) ∙ told-here t.next (Some new) (entry_of t.nodes)
+      here = low-entry t.next (omega arith) ∙ set-here t.next (Some new) (entry_of t.nodes)
 
       -- a directory had no entry of a number that wasn't taken
       above : (n : ℕ) → u.next ≤ n → entry_of u.nodes n ≡ None
       above n high =
           let far : t.next + 1 + length xs ≤ n = subst (λ (k : ℕ). k ≤ n) m.next high in
-          m.entries n ∙ over-high xs (t.next + 1) t.next n at far ∙ told-there t.next (Some new) (entry_of t.nodes) n (λ same. omega arith) ∙ h.lists.above n (omega arith)
+          m.entries n ∙ over-high xs (t.next + 1) t.next n at far ∙ set-there t.next (Some new) (entry_of t.nodes) n (λ same. omega arith) ∙ h.lists.above n (omega arith)
 
       free : (n : ℕ) → Among (kids_of t.nodes dir) n → bytes_eq (name_of t.nodes n) name ≡ false
       free n among = elim (true-or-false (bytes_eq (name_of t.nodes n) name)) [
@@ -106,7 +107,7 @@ module _ (t : Inside) (s : Seen) (view : seen_of t ≡ s) (h : IsShaped t) (u : 
         | inl same ↦
             (let found = parent-told (entry_of t.nodes n) dir (h.lists.listed dir n among) in
             let less : n < t.next = entry-low t s view h u n found.0 found.1 in
-            let there : entry_of u.nodes n ≡ Some found.0 = low-entry n (omega arith) ∙ told-there t.next (Some new) (entry_of t.nodes) n (λ is. omega arith) ∙ found.1 in
+            let there : entry_of u.nodes n ≡ Some found.0 = low-entry n (omega arith) ∙ set-there t.next (Some new) (entry_of t.nodes) n (λ is. omega arith) ∙ found.1 in
             let one : n ≡ t.next = apart u sound above n t.next found.0 new there here found.2 (sym (name-told t.nodes n found.0 found.1) ∙ (bytes_eq-Decides (name_of t.nodes n) name).0 same) in
             absurd (omega arith))
       ]
@@ -116,7 +117,7 @@ module _ (t : Inside) (s : Seen) (view : seen_of t ≡ s) (h : IsShaped t) (u : 
 
       -- nothing is in the mount yet
       bare : kids t.next ≡ []
-      bare = told-there dir (insert (kids_of t.nodes dir) (rank_in (name_of t.nodes) name (kids_of t.nodes dir)) t.next) (kids_of t.nodes) t.next (λ same. omega arith) ∙ h.lists.fresh t.next (omega arith)
+      bare = set-there dir (insert (kids_of t.nodes dir) (rank_in (name_of t.nodes) name (kids_of t.nodes dir)) t.next) (kids_of t.nodes) t.next (λ same. omega arith) ∙ h.lists.fresh t.next (omega arith)
 
       synced : IsSynced (t.next + 1) t.next at (entry_of u.nodes) names (name_of u.nodes) kids nowhere xs
       synced = record {
@@ -137,8 +138,8 @@ module _ (t : Inside) (s : Seen) (view : seen_of t ≡ s) (h : IsShaped t) (u : 
           let all = tree-synced (t.next + 1) t.next at (entry_of u.nodes) names (name_of u.nodes) kids nowhere xs linked synced in
           let far : t.next + 1 + length (unknown nowhere xs) ≡ u.next = ap (λ (ys : List (List ℕ)). t.next + 1 + length ys) (unknown-none xs) ∙ sym m.next in
           subst (λ (k : ℕ). AreNested k (entry_of u.nodes) (name_of u.nodes) (kids_of u.nodes)) far
-          (tree-same (t.next + 1 + length (unknown nowhere xs)) (entry_of u.nodes) (entry_of u.nodes) (name_of u.nodes) (name_of u.nodes) (told_at t.next (numbers_from nowhere (t.next + 1) xs) kids) (kids_of u.nodes) all (λ n. refl) (λ d n stands. refl)
-          (λ d. m.lists d ∙ ap (λ (ns : List ℕ). told_at t.next ns kids d) (sym (numbers-none xs (t.next + 1)))))
+          (tree-same (t.next + 1 + length (unknown nowhere xs)) (entry_of u.nodes) (entry_of u.nodes) (name_of u.nodes) (name_of u.nodes) (set_at t.next (numbers_from nowhere (t.next + 1) xs) kids) (kids_of u.nodes) all (λ n. refl) (λ d n stands. refl)
+          (λ d. m.lists d ∙ ap (λ (ns : List ℕ). set_at t.next ns kids d) (sym (numbers-none xs (t.next + 1)))))
 
       others : HasNoOther u.nodes u.next
       others n root below gone = elim (cases_lt n (t.next + 1)) [
@@ -146,7 +147,7 @@ module _ (t : Inside) (s : Seen) (view : seen_of t ≡ s) (h : IsShaped t) (u : 
           | inl same ↦ (let none : Some new ≡ None = sym here ∙ ap (λ (k : ℕ). entry_of u.nodes k) same ∙ gone in absurd cc)
           | inr other ↦
               (let lower : n < t.next = omega arith in
-              m.numbers n ∙ h.others n root lower (sym (told-there t.next (Some new) (entry_of t.nodes) n other) ∙ sym (low-entry n less) ∙ gone))
+              m.numbers n ∙ h.others n root lower (sym (set-there t.next (Some new) (entry_of t.nodes) n other) ∙ sym (low-entry n less) ∙ gone))
         ]
         | inr high ↦
             (let far : n < t.next + 1 + length xs = subst (λ (k : ℕ). n < k) m.next below in

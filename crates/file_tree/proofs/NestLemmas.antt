@@ -7,13 +7,15 @@ use Rattle.hac_model.specs.Tree.Depends.{Among}
 use Rattle.hac_model.specs.Tree.Links.{has}
 use Rattle.hac_model.specs.Tree.Mounting.{do_names_rise, is_among}
 use Rattle.hac_model.specs.declared.states.Entry.{Entry}
-use Rattle.file_tree.specs.Documents.{numbers_from, unknown}
-use Rattle.file_tree.specs.Shape.{AreNested, NamesRise, parent_in}
-use Rattle.file_tree.proofs.FoundLemmas.{among-has, has-not}
-use Rattle.file_tree.proofs.ListLemmas.{rises-same}
+use Rattle.tree_nodes.specs.Nodes.{set_at, parent_in}
+use Rattle.tree_nodes.specs.Documents.{numbers_from, unknown}
+use Rattle.file_tree.specs.Shape.{AreNested}
+use Rattle.tree_nodes.specs.Search.{NamesRise}
+use Rattle.tree_nodes.proofs.FoundLemmas.{among-has, has-not}
+use Rattle.tree_nodes.proofs.ListLemmas.{rises-same}
 use Rattle.file_tree.proofs.NumberLemmas.{names-rise, number-from, number-known, number-names, number-new}
-use Rattle.file_tree.proofs.OverLemmas.{NamesFollow}
-use Rattle.file_tree.proofs.ShapeLemmas.{same-or-not, told_at, told-here, told-there}
+use Rattle.tree_nodes.proofs.OverLemmas.{NamesFollow}
+use Rattle.tree_nodes.proofs.SetLemmas.{same-or-not, set-here, set-there}
 
 -- an entry goes whose name isn't among these
 abbrev pub goes : (ℕ → List ℕ) → List ℕ → List (List ℕ) → ℕ → Bool
@@ -64,13 +66,13 @@ module _ (next m : ℕ) (at other : ℕ → Option Entry) (names named : ℕ →
     | inr new ↦ s.fresh q new.0 new.1
   ]
 
-  listed : (d q : ℕ) → Among (told_at m (numbers_from find next xs) kids d) q → parent_in (other q) ≡ Some d
+  listed : (d q : ℕ) → Among (set_at m (numbers_from find next xs) kids d) q → parent_in (other q) ≡ Some d
   listed d q among = elim (same-or-not m d) [
     | inl same ↦
-        own-list q (subst (λ (ns : List ℕ). Among ns q) (ap (λ (k : ℕ). told_at m (numbers_from find next xs) kids k) (sym same) ∙ told-here m (numbers_from find next xs) kids) among)
+        own-list q (subst (λ (ns : List ℕ). Among ns q) (ap (λ (k : ℕ). set_at m (numbers_from find next xs) kids k) (sym same) ∙ set-here m (numbers_from find next xs) kids) among)
         ∙ ap (λ (k : ℕ). Some k) same
     | inr differs ↦
-        (let stands : parent_in (at q) ≡ Some d = h.listed d q (subst (λ (ns : List ℕ). Among ns q) (told-there m (numbers_from find next xs) kids d differs) among) in
+        (let stands : parent_in (at q) ≡ Some d = h.listed d q (subst (λ (ns : List ℕ). Among ns q) (set-there m (numbers_from find next xs) kids d differs) among) in
         ap parent_in (kept q (taken d q stands) (stays-other d q differs stands)) ∙ stands)
   ]
 
@@ -82,27 +84,27 @@ module _ (next m : ℕ) (at other : ℕ → Option Entry) (names named : ℕ →
       by_test true h = refl
       by_test false h = absurd cc
 
-  here : (q : ℕ) → Among (numbers_from find next xs) q → Among (told_at m (numbers_from find next xs) kids m) q
-  here q among = subst (λ (ns : List ℕ). Among ns q) (sym (told-here m (numbers_from find next xs) kids)) among
+  here : (q : ℕ) → Among (numbers_from find next xs) q → Among (set_at m (numbers_from find next xs) kids m) q
+  here q among = subst (λ (ns : List ℕ). Among ns q) (sym (set-here m (numbers_from find next xs) kids)) among
 
-  lists : (d q : ℕ) → parent_in (other q) ≡ Some d → Among (told_at m (numbers_from find next xs) kids d) q
+  lists : (d q : ℕ) → parent_in (other q) ≡ Some d → Among (set_at m (numbers_from find next xs) kids d) q
   lists d q there = elim (cases_lt q next) [
-    | inl low ↦ elim (goes names (kids m) xs q) as (λ b. goes names (kids m) xs q ≡ b → Among (told_at m (numbers_from find next xs) kids d) q) [
+    | inl low ↦ elim (goes names (kids m) xs q) as (λ b. goes names (kids m) xs q ≡ b → Among (set_at m (numbers_from find next xs) kids d) q) [
       | true ↦ (λ gone.
           let none : parent_in (other q) ≡ None = ap parent_in (s.told q low ∙ ap (λ (b : Bool). cond b None (at q)) gone) in
           absurd cc)
       | false ↦ (λ stays.
           let stands : parent_in (at q) ≡ Some d = sym (ap parent_in (kept q low stays)) ∙ there in
           elim (same-or-not m d) [
-            | inl same ↦ subst (λ (k : ℕ). Among (told_at m (numbers_from find next xs) kids k) q) same (here q (stays-listed q (subst (λ (k : ℕ). Among (kids k) q) (sym same) (h.lists d q stands)) stays))
-            | inr differs ↦ subst (λ (ns : List ℕ). Among ns q) (sym (told-there m (numbers_from find next xs) kids d differs)) (h.lists d q stands)
+            | inl same ↦ subst (λ (k : ℕ). Among (set_at m (numbers_from find next xs) kids k) q) same (here q (stays-listed q (subst (λ (k : ℕ). Among (kids k) q) (sym same) (h.lists d q stands)) stays))
+            | inr differs ↦ subst (λ (ns : List ℕ). Among ns q) (sym (set-there m (numbers_from find next xs) kids d differs)) (h.lists d q stands)
           ])
     ] refl
     | inr high ↦ elim (cases_lt q (next + length (unknown find xs))) [
       | inl inside ↦
           (let both : Some m ≡ Some d = sym (s.fresh q high inside) ∙ there in
           let same : m ≡ d = cc in
-          subst (λ (k : ℕ). Among (told_at m (numbers_from find next xs) kids k) q) same (here q (number-new find xs next q high inside)))
+          subst (λ (k : ℕ). Among (set_at m (numbers_from find next xs) kids k) q) same (here q (number-new find xs next q high inside)))
       | inr beyond ↦ (let none : parent_in (other q) ≡ None = ap parent_in (s.above q beyond) in absurd cc)
     ]
   ]
@@ -112,19 +114,19 @@ module _ (next m : ℕ) (at other : ℕ → Option Entry) (names named : ℕ →
       let member = s.found x n found in
       s.same n (taken m n (h.listed m n member.0)) (known-stays x n is found) ∙ member.1) s.follow
 
-  rises : (d : ℕ) → NamesRise named (told_at m (numbers_from find next xs) kids d)
+  rises : (d : ℕ) → NamesRise named (set_at m (numbers_from find next xs) kids d)
   rises d = elim (same-or-not m d) [
     | inl same ↦
-        subst (λ (k : ℕ). NamesRise named (told_at m (numbers_from find next xs) kids k)) same
-        (subst (λ (ns : List ℕ). NamesRise named ns) (sym (told-here m (numbers_from find next xs) kids)) (names-rise named (numbers_from find next xs) (ap do_names_rise names-are ∙ s.rise)))
+        subst (λ (k : ℕ). NamesRise named (set_at m (numbers_from find next xs) kids k)) same
+        (subst (λ (ns : List ℕ). NamesRise named ns) (sym (set-here m (numbers_from find next xs) kids)) (names-rise named (numbers_from find next xs) (ap do_names_rise names-are ∙ s.rise)))
     | inr differs ↦
-        subst (λ (ns : List ℕ). NamesRise named ns) (sym (told-there m (numbers_from find next xs) kids d differs))
+        subst (λ (ns : List ℕ). NamesRise named ns) (sym (set-there m (numbers_from find next xs) kids d differs))
         (rises-same names named (kids d) (λ n among.
         let stands : parent_in (at n) ≡ Some d = h.listed d n among in
         s.same n (taken d n stands) (stays-other d n differs stands)) (h.rises d))
   ]
 
-  pub tree-synced : AreNested (next + length (unknown find xs)) other named (told_at m (numbers_from find next xs) kids)
+  pub tree-synced : AreNested (next + length (unknown find xs)) other named (set_at m (numbers_from find next xs) kids)
   tree-synced = record {
     root = root;
     above = s.above;
@@ -139,7 +141,7 @@ module _ (next m : ℕ) (at other : ℕ → Option Entry) (names named : ℕ →
           let low : m < next = s.low in
           s.told 0 (omega arith) ∙ (elim (goes names (kids m) xs 0) as (λ b. cond b None (at 0) ≡ None) [ true ↦ refl | false ↦ h.root ])
 
-      fresh : (d : ℕ) → next + length (unknown find xs) ≤ d → told_at m (numbers_from find next xs) kids d ≡ []
+      fresh : (d : ℕ) → next + length (unknown find xs) ≤ d → set_at m (numbers_from find next xs) kids d ≡ []
       fresh d high =
           let low : m < next = s.low in
-          told-there m (numbers_from find next xs) kids d (λ same. omega arith) ∙ h.fresh d (omega arith)
+          set-there m (numbers_from find next xs) kids d (λ same. omega arith) ∙ h.fresh d (omega arith)

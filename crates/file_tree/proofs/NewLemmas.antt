@@ -16,14 +16,15 @@ use Rattle.hac_model.specs.declared.versions.Version.{Version}
 use Rattle.hac_model.specs.declared.versions.Version.TheVariants.{One, Two}
 use Rattle.hac_model.proofs.ChangeLemmas.{entry_at-new}
 use Rattle.hac_model.proofs.TreeLemmas.{entry_at-all, entry_at-next}
-use Rattle.file_tree.specs.Nodes.{entries_below, entry_from, entry_of, has_node, if_placed, kids_of, name_of}
+use Rattle.file_tree.specs.Shape.{entries_below, HasNew, HasSpare, IsShaped, state_of}
+use Rattle.tree_nodes.specs.Nodes.{entry_from, entry_of, has_node, if_placed, kids_of, name_of, parent_in}
 use Rattle.file_tree.specs.Ready.{ready_for}
-use Rattle.file_tree.specs.Shape.{HasNew, HasSpare, IsShaped, NamesRise, parent_in, state_of}
-use Rattle.file_tree.specs.declared.nodes.NewBody.{NewBody}
-use Rattle.file_tree.specs.declared.nodes.NewBody.TheVariants as new
-use Rattle.file_tree.specs.declared.nodes.Node.{Node}
+use Rattle.tree_nodes.specs.Search.{NamesRise}
+use Rattle.file_tree.specs.declared.bodies.NewBody.{NewBody}
+use Rattle.tree_nodes.specs.declared.nodes.Node.{Node}
 use Rattle.file_tree.specs.declared.tree.Tree.TheInside.{Inside}
 use Rattle.file_tree.proofs.StateLemmas.{state_with}
+use Rattle.file_tree.specs.declared.bodies.NewBody.TheVariants as new
 
 module _ {S : Type 0} where
   pub empty-entry : (nodes : IndexMap ℕ Node S) → nodes.entries ≡ [] → (n : ℕ) → entry_of nodes n ≡ None

@@ -10,11 +10,10 @@ use Rattle.std.specs.Cmp.Lexicographic.{nat_list_eq_equiv}
 use Rattle.hac_model.specs.Tree.Depends.{Among}
 use Rattle.hac_model.specs.Tree.Listing.{is_before}
 use Rattle.hac_model.specs.Tree.Mounting.{do_names_rise, is_among}
-use Rattle.file_tree.specs.Documents.{numbers_from, numbers_up, unknown}
-use Rattle.file_tree.specs.Search.{first_named}
-use Rattle.file_tree.specs.Shape.{NamesRise}
-use Rattle.file_tree.proofs.OverLemmas.{NamesFollow}
-use Rattle.file_tree.proofs.ShapeLemmas.{same-or-not}
+use Rattle.tree_nodes.specs.Documents.{numbers_from, numbers_up, unknown}
+use Rattle.tree_nodes.specs.Search.{first_named, NamesRise}
+use Rattle.tree_nodes.proofs.OverLemmas.{NamesFollow}
+use Rattle.tree_nodes.proofs.SetLemmas.{same-or-not}
 
 among-first : (x : List ℕ) (xs : List (List ℕ)) → is_among (x ∷ xs) x ≡ true
 among-first x xs = ap (λ (b : Bool). b || list_any (bytes_eq x) xs) (nat_list_eq_equiv.refl x)

@@ -14,10 +14,10 @@ use Rattle.indexmap.specs.IndexMap.{IsUnique}
 use Rattle.hac_model.specs.Tree.Links.{has}
 use Rattle.hac_model.specs.declared.states.Entry.{Entry}
 use Rattle.file_tree.specs.Answers.{numbers_of}
-use Rattle.file_tree.specs.Nodes.{entry_from, if_placed, placed_at, placed_in}
+use Rattle.tree_nodes.specs.Nodes.{entry_from, if_placed, placed_at, placed_in}
 use Rattle.file_tree.specs.Seen.{Seen}
 use Rattle.file_tree.specs.Shape.{IsShaped, seen_of}
-use Rattle.file_tree.specs.declared.nodes.Node.{Node}
+use Rattle.tree_nodes.specs.declared.nodes.Node.{Node}
 use Rattle.file_tree.specs.declared.tree.Tree.TheInside.{Inside}
 use Rattle.file_tree.proofs.LiveLemmas.{numbers-has, numbers-rise}
 use Rattle.file_tree.proofs.ReadLemmas.{seen-at, seen-layout}

@@ -14,14 +14,15 @@ use Rattle.hac_model.specs.declared.states.Entry.{Entry}
 use Rattle.hac_model.specs.declared.states.State.{State}
 use Rattle.hac_model.proofs.ChangeLemmas.{all-weaker}
 use Rattle.hac_model.proofs.TreeLemmas.{all-entries}
-use Rattle.file_tree.specs.Nodes.{entry_of, kids_of, name_of}
+use Rattle.tree_nodes.specs.Nodes.{entry_of, kids_of, name_of, parent_in}
 use Rattle.file_tree.specs.Seen.{Seen}
-use Rattle.file_tree.specs.Shape.{IsShaped, NamesRise, parent_in, seen_of, state_of}
+use Rattle.file_tree.specs.Shape.{IsShaped, seen_of, state_of}
+use Rattle.tree_nodes.specs.Search.{NamesRise}
 use Rattle.file_tree.specs.declared.tree.Tree.TheInside.{Inside}
 use Rattle.file_tree.proofs.ChildLemmas.{name-told, parent-told}
-use Rattle.file_tree.proofs.ListLemmas.{among-all, before-itself}
+use Rattle.tree_nodes.proofs.ListLemmas.{among-all, before-itself}
 use Rattle.file_tree.proofs.ReadLemmas.{entry_of-number, seen-entry}
-use Rattle.file_tree.proofs.SearchLemmas.{before-other, before-trans}
+use Rattle.sorted_lists.proofs.OrderLemmas.{before-other, before-trans}
 
 -- the numbers of entries
 abbrev pub numbers_of : List Entry → List ℕ

@@ -6,10 +6,10 @@ use Rattle.indexmap.specs.IndexMap.{IndexMap}
 use Rattle.hac_model.specs.Tree.{entry_at}
 use Rattle.hac_model.specs.Tree.Valid.{IsLayout}
 use Rattle.hac_model.specs.declared.states.Entry.{Entry}
-use Rattle.file_tree.specs.Nodes.{entry_from, entry_of, placed_at}
+use Rattle.tree_nodes.specs.Nodes.{entry_from, entry_of, placed_at}
 use Rattle.file_tree.specs.Seen.{Seen}
 use Rattle.file_tree.specs.Shape.{IsShaped, seen_of, state_of}
-use Rattle.file_tree.specs.declared.nodes.Node.{Node}
+use Rattle.tree_nodes.specs.declared.nodes.Node.{Node}
 use Rattle.file_tree.specs.declared.tree.Tree.TheInside.{Inside}
 use Rattle.file_tree.proofs.BelowLemmas.{IsNumbered, below-all}
 

@@ -8,9 +8,9 @@ use Rattle.hac_model.specs.Tree.{entry_at}
 use Rattle.hac_model.specs.Tree.Valid.{NumbersRise}
 use Rattle.hac_model.specs.declared.states.Entry.{Entry}
 use Rattle.hac_model.proofs.TreeLemmas.{entry_at-behind, entry_at-first, entry_at-low}
-use Rattle.file_tree.specs.Nodes.{entries_below}
+use Rattle.file_tree.specs.Shape.{entries_below}
 use Rattle.file_tree.proofs.BelowLemmas.{IsNumbered, below-all}
-use Rattle.file_tree.proofs.ShapeLemmas.{same-or-not}
+use Rattle.tree_nodes.proofs.SetLemmas.{same-or-not}
 
 less-or-more : (m n : ℕ) → (m ≡ n → ⊥) → (m < n) ⊎ (n < m)
 less-or-more m n other = elim (cases_lt m n) [

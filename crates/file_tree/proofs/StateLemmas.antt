@@ -15,16 +15,17 @@ use Rattle.hac_model.specs.declared.states.State.{State}
 use Rattle.hac_model.specs.declared.versions.Version.{Version}
 use Rattle.hac_model.proofs.PathLemmas.{parent-directory, path_of-deeper}
 use Rattle.hac_model.proofs.TreeLemmas.{Lives, child-own, directory-lives, entry_at-below, rise-below}
-use Rattle.file_tree.specs.Nodes.{entries_below, entry_of, has_node, kids_of, name_of}
-use Rattle.file_tree.specs.Search.{rank_in}
+use Rattle.file_tree.specs.Shape.{entries_below, HasNoOther, HasSpare, IsShaped, AreNested, seen_of, state_of}
+use Rattle.tree_nodes.specs.Nodes.{entry_of, has_node, kids_of, name_of, set_at, parent_in}
+use Rattle.tree_nodes.specs.Search.{rank_in}
 use Rattle.file_tree.specs.Seen.{Seen}
-use Rattle.file_tree.specs.Shape.{HasNoOther, HasSpare, IsShaped, AreNested, parent_in, seen_of, state_of}
 use Rattle.file_tree.specs.declared.tree.Tree.TheInside.{Inside}
 use Rattle.file_tree.proofs.BelowLemmas.{below-added, below-all, below-changed, below-removed, below-same}
 use Rattle.file_tree.proofs.ChildLemmas.{entry-node, name-told, parent-told}
-use Rattle.file_tree.proofs.ListLemmas.{none-among, rank-inside}
+use Rattle.tree_nodes.proofs.ListLemmas.{none-among, rank-inside}
 use Rattle.file_tree.proofs.ReadLemmas.{entry_of-number, none-there, seen-at, seen-entry}
-use Rattle.file_tree.proofs.ShapeLemmas.{none-standing, same-or-not, told_at, told-here, told-there, tree-linked, tree-same, tree-unlinked}
+use Rattle.file_tree.proofs.ShapeLemmas.{none-standing, tree-linked, tree-same, tree-unlinked}
+use Rattle.tree_nodes.proofs.SetLemmas.{same-or-not, set-here, set-there}
 
 abbrev pub state_with : Version → ℕ → List Entry → State
 state_with version next entries = record { version = version; next = next; entries = entries; sessions = [] }
@@ -57,14 +58,14 @@ module _ (t : Inside) (s : Seen) (view : seen_of t ≡ s) (h : IsShaped t) (u : 
       ∙ ap (λ (x : State). changed_at x m change) seen-state
 
   -- an entry is taken out
-  pub state-removed : (m : ℕ) → u.next ≡ t.next → u.version ≡ t.version → ((n : ℕ) → entry_of u.nodes n ≡ told_at m None (entry_of t.nodes) n) → state_of u ≡ removed s.state m
+  pub state-removed : (m : ℕ) → u.next ≡ t.next → u.version ≡ t.version → ((n : ℕ) → entry_of u.nodes n ≡ set_at m None (entry_of t.nodes) n) → state_of u ≡ removed s.state m
   state-removed m next version told =
       (λ i. state_with (version i) (next i) (entries_below (next i) (entry_of u.nodes)))
       ∙ ap (λ (es : List Entry). state_with t.version t.next es) (below-removed t.next (entry_of t.nodes) (entry_of u.nodes) m (entry_of-number t.nodes) told)
       ∙ ap (λ (x : State). removed x m) seen-state
 
   -- an entry is added
-  pub state-added : (dir : ℕ) (name : List ℕ) (body : Body) → u.next ≡ t.next + 1 → u.version ≡ t.version → ((n : ℕ) → entry_of u.nodes n ≡ told_at t.next (Some (record { number = t.next; parent = dir; name = name; body = body })) (entry_of t.nodes) n) → state_of u ≡ added s.state dir name body
+  pub state-added : (dir : ℕ) (name : List ℕ) (body : Body) → u.next ≡ t.next + 1 → u.version ≡ t.version → ((n : ℕ) → entry_of u.nodes n ≡ set_at t.next (Some (record { number = t.next; parent = dir; name = name; body = body })) (entry_of t.nodes) n) → state_of u ≡ added s.state dir name body
   state-added dir name body next version told =
       (λ i. state_with (version i) (next i) (entries_below (next i) (entry_of u.nodes)))
       ∙ ap (λ (es : List Entry). state_with t.version (t.next + 1) es) (below-added t.next (entry_of t.nodes) (entry_of u.nodes) (record { number = t.next; parent = dir; name = name; body = body }) told)
@@ -140,17 +141,17 @@ true-or-false false = inr refl
 
 module _ (t : Inside) (s : Seen) (view : seen_of t ≡ s) (h : IsShaped t) (u : Inside) where
   -- an entry is added
-  pub shaped-added : (dir : ℕ) (name : List ℕ) (body : Body) → u.next ≡ t.next + 1 → u.version ≡ t.version → ((n : ℕ) → entry_of u.nodes n ≡ told_at t.next (Some (record { number = t.next; parent = dir; name = name; body = body })) (entry_of t.nodes) n) →
-      ((n : ℕ) → name_of u.nodes n ≡ told_at t.next name (name_of t.nodes) n) → ((d : ℕ) → kids_of u.nodes d ≡ told_at dir (insert (kids_of t.nodes dir) (rank_in (name_of t.nodes) name (kids_of t.nodes dir)) t.next) (kids_of t.nodes) d) →
+  pub shaped-added : (dir : ℕ) (name : List ℕ) (body : Body) → u.next ≡ t.next + 1 → u.version ≡ t.version → ((n : ℕ) → entry_of u.nodes n ≡ set_at t.next (Some (record { number = t.next; parent = dir; name = name; body = body })) (entry_of t.nodes) n) →
+      ((n : ℕ) → name_of u.nodes n ≡ set_at t.next name (name_of t.nodes) n) → ((d : ℕ) → kids_of u.nodes d ≡ set_at dir (insert (kids_of t.nodes dir) (rank_in (name_of t.nodes) name (kids_of t.nodes dir)) t.next) (kids_of t.nodes) d) →
       ((n : ℕ) → has_node u.nodes n ≡ has_node t.nodes n) → dir < t.next → IsLayout (added s.state dir name body) → HasSpare u.ready u.nodes u.next → IsShaped u
   shaped-added dir name body next version told names kids numbers low layout spare = record {
     lists = subst (λ (k : ℕ). AreNested k (entry_of u.nodes) (name_of u.nodes) (kids_of u.nodes)) (sym next)
-        (tree-same (t.next + 1) (told_at t.next (Some new) (entry_of t.nodes)) (entry_of u.nodes) (told_at t.next name (name_of t.nodes)) (name_of u.nodes) (told_at dir (insert (kids_of t.nodes dir) (rank_in (name_of t.nodes) name (kids_of t.nodes dir)) t.next) (kids_of t.nodes)) (kids_of u.nodes) linked
+        (tree-same (t.next + 1) (set_at t.next (Some new) (entry_of t.nodes)) (entry_of u.nodes) (set_at t.next name (name_of t.nodes)) (name_of u.nodes) (set_at dir (insert (kids_of t.nodes dir) (rank_in (name_of t.nodes) name (kids_of t.nodes dir)) t.next) (kids_of t.nodes)) (kids_of u.nodes) linked
         (λ n. ap parent_in (told n)) (λ d n stands. names n) kids);
     layout = sound;
     root = numbers 0 ∙ h.root;
     spare = spare;
-    others = λ n root ahead gone. numbers n ∙ h.others n root (before n (subst (λ (k : ℕ). n < k) next ahead) (new-there n gone)) (sym (told-there t.next (Some new) (entry_of t.nodes) n (λ same. new-there n gone (sym same))) ∙ sym (told n) ∙ gone);
+    others = λ n root ahead gone. numbers n ∙ h.others n root (before n (subst (λ (k : ℕ). n < k) next ahead) (new-there n gone)) (sym (set-there t.next (Some new) (entry_of t.nodes) n (λ same. new-there n gone (sym same))) ∙ sym (told n) ∙ gone);
   }
     where
       new : Entry
@@ -160,7 +161,7 @@ module _ (t : Inside) (s : Seen) (view : seen_of t ≡ s) (h : IsShaped t) (u : 
       sound = subst IsLayout (sym (state-added t s view h u dir name body next version told)) layout
 
       here : entry_of u.nodes t.next ≡ Some new
-      here = told t.next ∙ told-here t.next (Some new) (entry_of t.nodes)
+      here = told t.next ∙ set-here t.next (Some new) (entry_of t.nodes)
 
       new-there : (n : ℕ) → entry_of u.nodes n ≡ None → n ≡ t.next → ⊥
       new-there n gone same = let none : Some new ≡ None = sym here ∙ ap (λ (k : ℕ). entry_of u.nodes k) (sym same) ∙ gone in cc
@@ -169,7 +170,7 @@ module _ (t : Inside) (s : Seen) (view : seen_of t ≡ s) (h : IsShaped t) (u : 
       before n low other = omega arith
 
       above : (n : ℕ) → u.next ≤ n → entry_of u.nodes n ≡ None
-      above n high = let more : t.next + 1 ≤ n = subst (λ (k : ℕ). k ≤ n) next high in told n ∙ told-there t.next (Some new) (entry_of t.nodes) n (λ same. omega arith) ∙ h.lists.above n (omega arith)
+      above n high = let more : t.next + 1 ≤ n = subst (λ (k : ℕ). k ≤ n) next high in told n ∙ set-there t.next (Some new) (entry_of t.nodes) n (λ same. omega arith) ∙ h.lists.above n (omega arith)
 
       free : (m : ℕ) → Among (kids_of t.nodes dir) m → bytes_eq (name_of t.nodes m) name ≡ false
       free m among = elim (true-or-false (bytes_eq (name_of t.nodes m) name)) [
@@ -177,36 +178,36 @@ module _ (t : Inside) (s : Seen) (view : seen_of t ≡ s) (h : IsShaped t) (u : 
         | inl same ↦
             (let found = parent-told (entry_of t.nodes m) dir (h.lists.listed dir m among) in
             let less : m < t.next = entry-low t s view h u m found.0 found.1 in
-            let there : entry_of u.nodes m ≡ Some found.0 = told m ∙ told-there t.next (Some new) (entry_of t.nodes) m (λ is. omega arith) ∙ found.1 in
+            let there : entry_of u.nodes m ≡ Some found.0 = told m ∙ set-there t.next (Some new) (entry_of t.nodes) m (λ is. omega arith) ∙ found.1 in
             let one : m ≡ t.next = apart u sound above m t.next found.0 new there here found.2 (sym (name-told t.nodes m found.0 found.1) ∙ (bytes_eq-Decides (name_of t.nodes m) name).0 same) in
             absurd (omega arith))
       ]
 
-      linked : AreNested (t.next + 1) (told_at t.next (Some new) (entry_of t.nodes)) (told_at t.next name (name_of t.nodes)) (told_at dir (insert (kids_of t.nodes dir) (rank_in (name_of t.nodes) name (kids_of t.nodes dir)) t.next) (kids_of t.nodes))
+      linked : AreNested (t.next + 1) (set_at t.next (Some new) (entry_of t.nodes)) (set_at t.next name (name_of t.nodes)) (set_at dir (insert (kids_of t.nodes dir) (rank_in (name_of t.nodes) name (kids_of t.nodes dir)) t.next) (kids_of t.nodes))
       linked = tree-linked t.next (t.next + 1) (entry_of t.nodes) (name_of t.nodes) (kids_of t.nodes) t.next dir new name h.lists (h.lists.above t.next (omega arith)) (rise-below 0 (state_of t).entries t.next h.layout.numbers) (omega arith) (omega arith) (omega arith) refl free
 
   -- an entry is taken out, with its list, which is empty
-  pub shaped-removed : (n dir : ℕ) → u.next ≡ t.next → u.version ≡ t.version → parent_in (entry_of t.nodes n) ≡ Some dir → ((q : ℕ) → entry_of u.nodes q ≡ told_at n None (entry_of t.nodes) q) → ((q : ℕ) → nat_eq n q ≡ false → name_of u.nodes q ≡ name_of t.nodes q) →
-      ((d : ℕ) → kids_of u.nodes d ≡ told_at n [] (told_at dir (remove (kids_of t.nodes dir) (rank_in (name_of t.nodes) (name_of t.nodes n) (kids_of t.nodes dir))) (kids_of t.nodes)) d) →
-      ((q : ℕ) → has_node u.nodes q ≡ told_at n false (has_node t.nodes) q) → IsLayout (removed s.state n) → HasSpare u.ready u.nodes u.next → IsShaped u
+  pub shaped-removed : (n dir : ℕ) → u.next ≡ t.next → u.version ≡ t.version → parent_in (entry_of t.nodes n) ≡ Some dir → ((q : ℕ) → entry_of u.nodes q ≡ set_at n None (entry_of t.nodes) q) → ((q : ℕ) → nat_eq n q ≡ false → name_of u.nodes q ≡ name_of t.nodes q) →
+      ((d : ℕ) → kids_of u.nodes d ≡ set_at n [] (set_at dir (remove (kids_of t.nodes dir) (rank_in (name_of t.nodes) (name_of t.nodes n) (kids_of t.nodes dir))) (kids_of t.nodes)) d) →
+      ((q : ℕ) → has_node u.nodes q ≡ set_at n false (has_node t.nodes) q) → IsLayout (removed s.state n) → HasSpare u.ready u.nodes u.next → IsShaped u
   shaped-removed n dir next version stands told names kids numbers layout spare = record {
     lists = subst (λ (k : ℕ). AreNested k (entry_of u.nodes) (name_of u.nodes) (kids_of u.nodes)) (sym next)
-        (tree-same t.next (told_at n None (entry_of t.nodes)) (entry_of u.nodes) (name_of t.nodes) (name_of u.nodes) cut (kids_of u.nodes) (tree-unlinked t.next (entry_of t.nodes) (name_of t.nodes) (kids_of t.nodes) n dir h.lists stands)
+        (tree-same t.next (set_at n None (entry_of t.nodes)) (entry_of u.nodes) (name_of t.nodes) (name_of u.nodes) cut (kids_of u.nodes) (tree-unlinked t.next (entry_of t.nodes) (name_of t.nodes) (kids_of t.nodes) n dir h.lists stands)
         (λ q. ap parent_in (told q)) (λ d q there. names q (ne_eqb n q (λ same.
-        let none : parent_in (told_at n None (entry_of t.nodes) q) ≡ None = ap (λ (k : ℕ). parent_in (told_at n None (entry_of t.nodes) k)) (sym same) ∙ ap parent_in (told-here n None (entry_of t.nodes)) in
-        let some : parent_in (told_at n None (entry_of t.nodes) q) ≡ Some d = there in cc)))
+        let none : parent_in (set_at n None (entry_of t.nodes) q) ≡ None = ap (λ (k : ℕ). parent_in (set_at n None (entry_of t.nodes) k)) (sym same) ∙ ap parent_in (set-here n None (entry_of t.nodes)) in
+        let some : parent_in (set_at n None (entry_of t.nodes) q) ≡ Some d = there in cc)))
         (λ d. kids d ∙ bare d));
     layout = sound;
-    root = numbers 0 ∙ told-there n false (has_node t.nodes) 0 (λ root. none-there (ap (λ (k : ℕ). entry_of t.nodes k) root ∙ h.lists.root) (subst IsSome (sym entry.1) refl)) ∙ h.root;
+    root = numbers 0 ∙ set-there n false (has_node t.nodes) 0 (λ root. none-there (ap (λ (k : ℕ). entry_of t.nodes k) root ∙ h.lists.root) (subst IsSome (sym entry.1) refl)) ∙ h.root;
     spare = spare;
     others = λ q root ahead gone. numbers q ∙ (elim (same-or-not n q) [
-      | inl same ↦ ap (λ (k : ℕ). told_at n false (has_node t.nodes) k) (sym same) ∙ told-here n false (has_node t.nodes)
-      | inr other ↦ told-there n false (has_node t.nodes) q other ∙ h.others q root (subst (λ (k : ℕ). q < k) next ahead) (sym (told-there n None (entry_of t.nodes) q other) ∙ sym (told q) ∙ gone)
+      | inl same ↦ ap (λ (k : ℕ). set_at n false (has_node t.nodes) k) (sym same) ∙ set-here n false (has_node t.nodes)
+      | inr other ↦ set-there n false (has_node t.nodes) q other ∙ h.others q root (subst (λ (k : ℕ). q < k) next ahead) (sym (set-there n None (entry_of t.nodes) q other) ∙ sym (told q) ∙ gone)
     ]);
   }
     where
       cut : ℕ → List ℕ
-      cut = told_at dir (remove (kids_of t.nodes dir) (rank_in (name_of t.nodes) (name_of t.nodes n) (kids_of t.nodes dir))) (kids_of t.nodes)
+      cut = set_at dir (remove (kids_of t.nodes dir) (rank_in (name_of t.nodes) (name_of t.nodes n) (kids_of t.nodes dir))) (kids_of t.nodes)
 
       sound : IsLayout (state_of u)
       sound = subst IsLayout (sym (state-removed t s view h u n next version told)) layout
@@ -230,7 +231,7 @@ module _ (t : Inside) (s : Seen) (view : seen_of t ≡ s) (h : IsShaped t) (u : 
       nothing q among =
           let found = parent-told (entry_of t.nodes q) n (h.lists.listed n q among) in
           let differs : n ≡ q → ⊥ = λ same. outside (let one : Some dir ≡ Some n = sym stands ∙ ap (λ (k : ℕ). parent_in (entry_of t.nodes k)) same ∙ h.lists.listed n q among in cc) in
-          let there : entry_of u.nodes q ≡ Some found.0 = told q ∙ told-there n None (entry_of t.nodes) q differs ∙ found.1 in
+          let there : entry_of u.nodes q ≡ Some found.0 = told q ∙ set-there n None (entry_of t.nodes) q differs ∙ found.1 in
           let is : is_directory_at (state_of u).entries n ≡ true = subst (λ (d : ℕ). is_directory_at (state_of u).entries d ≡ true) found.2 (parent-directory (state_of u) q found.0 sound (below-all u.next (entry_of u.nodes) q (entry_of-number u.nodes) above ∙ there)) in
           gone (directory-lives (state_of u).entries n is)
         where
@@ -240,17 +241,17 @@ module _ (t : Inside) (s : Seen) (view : seen_of t ≡ s) (h : IsShaped t) (u : 
               let some : entry_of t.nodes n ≡ Some entry.0 = entry.1 in
               cc
           gone (inr found) =
-              let none : entry_at (state_of u).entries n ≡ None = below-all u.next (entry_of u.nodes) n (entry_of-number u.nodes) above ∙ told n ∙ told-here n None (entry_of t.nodes) in
+              let none : entry_at (state_of u).entries n ≡ None = below-all u.next (entry_of u.nodes) n (entry_of-number u.nodes) above ∙ told n ∙ set-here n None (entry_of t.nodes) in
               let some : entry_at (state_of u).entries n ≡ Some found.0 = found.1 in
               cc
 
-      bare : (d : ℕ) → told_at n [] cut d ≡ cut d
+      bare : (d : ℕ) → set_at n [] cut d ≡ cut d
       bare d = elim (same-or-not n d) [
         | inl same ↦
             (let empty : kids_of t.nodes d ≡ [] = ap (λ (k : ℕ). kids_of t.nodes k) (sym same) ∙ none-among (kids_of t.nodes n) nothing in
-            ap (λ (k : ℕ). told_at n [] cut k) (sym same) ∙ told-here n [] cut
-            ∙ sym empty ∙ sym (told-there dir (remove (kids_of t.nodes dir) (rank_in (name_of t.nodes) (name_of t.nodes n) (kids_of t.nodes dir))) (kids_of t.nodes) d (λ is. outside (is ∙ sym same))))
-        | inr other ↦ told-there n [] cut d other
+            ap (λ (k : ℕ). set_at n [] cut k) (sym same) ∙ set-here n [] cut
+            ∙ sym empty ∙ sym (set-there dir (remove (kids_of t.nodes dir) (rank_in (name_of t.nodes) (name_of t.nodes n) (kids_of t.nodes dir))) (kids_of t.nodes) d (λ is. outside (is ∙ sym same))))
+        | inr other ↦ set-there n [] cut d other
       ]
 
 module _ (t : Inside) (s : Seen) (view : seen_of t ≡ s) (h : IsShaped t) (n : ℕ) where
@@ -264,13 +265,13 @@ module _ (t : Inside) (s : Seen) (view : seen_of t ≡ s) (h : IsShaped t) (n : 
 
 module _ (t : Inside) (s : Seen) (view : seen_of t ≡ s) (h : IsShaped t) (u : Inside) where
   -- an entry is moved
-  pub shaped-moved : (n dir old : ℕ) (name : List ℕ) → u.next ≡ t.next → u.version ≡ t.version → parent_in (entry_of t.nodes n) ≡ Some old → ((q : ℕ) → entry_of u.nodes q ≡ touched_at n (reseated dir name) (entry_of t.nodes) q) → ((q : ℕ) → name_of u.nodes q ≡ told_at n name (name_of t.nodes) q) →
-      (cut : ℕ → List ℕ) → ((d : ℕ) → cut d ≡ told_at old (remove (kids_of t.nodes old) (rank_in (name_of t.nodes) (name_of t.nodes n) (kids_of t.nodes old))) (kids_of t.nodes) d) →
-      ((d : ℕ) → kids_of u.nodes d ≡ told_at dir (insert (cut dir) (rank_in (name_of t.nodes) name (cut dir)) n) cut d) →
+  pub shaped-moved : (n dir old : ℕ) (name : List ℕ) → u.next ≡ t.next → u.version ≡ t.version → parent_in (entry_of t.nodes n) ≡ Some old → ((q : ℕ) → entry_of u.nodes q ≡ touched_at n (reseated dir name) (entry_of t.nodes) q) → ((q : ℕ) → name_of u.nodes q ≡ set_at n name (name_of t.nodes) q) →
+      (cut : ℕ → List ℕ) → ((d : ℕ) → cut d ≡ set_at old (remove (kids_of t.nodes old) (rank_in (name_of t.nodes) (name_of t.nodes n) (kids_of t.nodes old))) (kids_of t.nodes) d) →
+      ((d : ℕ) → kids_of u.nodes d ≡ set_at dir (insert (cut dir) (rank_in (name_of t.nodes) name (cut dir)) n) cut d) →
       ((q : ℕ) → has_node u.nodes q ≡ has_node t.nodes q) → dir < t.next → IsLayout (changed_at s.state n (reseated dir name)) → HasSpare u.ready u.nodes u.next → IsShaped u
   shaped-moved n dir old name next version stands told names cut left kids numbers low layout spare = record {
     lists = subst (λ (k : ℕ). AreNested k (entry_of u.nodes) (name_of u.nodes) (kids_of u.nodes)) (sym next)
-        (tree-same t.next (told_at n (Some new) (told_at n None (entry_of t.nodes))) (entry_of u.nodes) (told_at n name (name_of t.nodes)) (name_of u.nodes) (told_at dir (insert (cut dir) (rank_in (name_of t.nodes) name (cut dir)) n) cut) (kids_of u.nodes) linked parents (λ d q there. names q) kids);
+        (tree-same t.next (set_at n (Some new) (set_at n None (entry_of t.nodes))) (entry_of u.nodes) (set_at n name (name_of t.nodes)) (name_of u.nodes) (set_at dir (insert (cut dir) (rank_in (name_of t.nodes) name (cut dir)) n) cut) (kids_of u.nodes) linked parents (λ d q there. names q) kids);
     layout = sound;
     root = numbers 0 ∙ h.root;
     spare = spare;
@@ -297,31 +298,31 @@ module _ (t : Inside) (s : Seen) (view : seen_of t ≡ s) (h : IsShaped t) (u : 
           ∙ (elim (nat_eq n q) as (λ b. cond b (option_map (reseated dir name) None) None ≡ None) [ true ↦ refl | false ↦ refl ])
 
       here : entry_of u.nodes n ≡ Some new
-      here = told n ∙ told-here n (option_map (reseated dir name) (entry_of t.nodes n)) (entry_of t.nodes) ∙ ap (λ (o : Option Entry). option_map (reseated dir name) o) entry.1
+      here = told n ∙ set-here n (option_map (reseated dir name) (entry_of t.nodes n)) (entry_of t.nodes) ∙ ap (λ (o : Option Entry). option_map (reseated dir name) o) entry.1
 
       there : (q : ℕ) → (n ≡ q → ⊥) → entry_of u.nodes q ≡ entry_of t.nodes q
-      there q other = told q ∙ told-there n (option_map (reseated dir name) (entry_of t.nodes q)) (entry_of t.nodes) q other
+      there q other = told q ∙ set-there n (option_map (reseated dir name) (entry_of t.nodes q)) (entry_of t.nodes) q other
 
-      parents : (q : ℕ) → parent_in (entry_of u.nodes q) ≡ parent_in (told_at n (Some new) (told_at n None (entry_of t.nodes)) q)
+      parents : (q : ℕ) → parent_in (entry_of u.nodes q) ≡ parent_in (set_at n (Some new) (set_at n None (entry_of t.nodes)) q)
       parents q = ap parent_in (elim (same-or-not n q) [
         | inl same ↦
-            ap (λ (k : ℕ). entry_of u.nodes k) (sym same) ∙ here ∙ sym (told-here n (Some new) (told_at n None (entry_of t.nodes)))
-            ∙ ap (λ (k : ℕ). told_at n (Some new) (told_at n None (entry_of t.nodes)) k) same
-        | inr other ↦ there q other ∙ sym (told-there n None (entry_of t.nodes) q other) ∙ sym (told-there n (Some new) (told_at n None (entry_of t.nodes)) q other)
+            ap (λ (k : ℕ). entry_of u.nodes k) (sym same) ∙ here ∙ sym (set-here n (Some new) (set_at n None (entry_of t.nodes)))
+            ∙ ap (λ (k : ℕ). set_at n (Some new) (set_at n None (entry_of t.nodes)) k) same
+        | inr other ↦ there q other ∙ sym (set-there n None (entry_of t.nodes) q other) ∙ sym (set-there n (Some new) (set_at n None (entry_of t.nodes)) q other)
       ])
 
-      unlinked : AreNested t.next (told_at n None (entry_of t.nodes)) (name_of t.nodes) cut
+      unlinked : AreNested t.next (set_at n None (entry_of t.nodes)) (name_of t.nodes) cut
       unlinked =
           let known = tree-unlinked t.next (entry_of t.nodes) (name_of t.nodes) (kids_of t.nodes) n old h.lists stands in
-          tree-same t.next (told_at n None (entry_of t.nodes)) (told_at n None (entry_of t.nodes)) (name_of t.nodes) (name_of t.nodes) (told_at old (remove (kids_of t.nodes old) (rank_in (name_of t.nodes) (name_of t.nodes n) (kids_of t.nodes old))) (kids_of t.nodes)) cut known (λ q. refl) (λ d q there. refl) left
+          tree-same t.next (set_at n None (entry_of t.nodes)) (set_at n None (entry_of t.nodes)) (name_of t.nodes) (name_of t.nodes) (set_at old (remove (kids_of t.nodes old) (rank_in (name_of t.nodes) (name_of t.nodes n) (kids_of t.nodes old))) (kids_of t.nodes)) cut known (λ q. refl) (λ d q there. refl) left
 
       free : (m : ℕ) → Among (cut dir) m → bytes_eq (name_of t.nodes m) name ≡ false
       free m among = elim (true-or-false (bytes_eq (name_of t.nodes m) name)) [
         | inr other ↦ other
         | inl same ↦
-            (let told_so : parent_in (told_at n None (entry_of t.nodes) m) ≡ Some dir = unlinked.listed dir m among in
-            let differs : n ≡ m → ⊥ = λ is. (let none : parent_in (told_at n None (entry_of t.nodes) m) ≡ None = ap (λ (k : ℕ). parent_in (told_at n None (entry_of t.nodes) k)) (sym is) ∙ ap parent_in (told-here n None (entry_of t.nodes)) in cc) in
-            let found = parent-told (entry_of t.nodes m) dir (ap parent_in (sym (told-there n None (entry_of t.nodes) m differs)) ∙ told_so) in
+            (let told_so : parent_in (set_at n None (entry_of t.nodes) m) ≡ Some dir = unlinked.listed dir m among in
+            let differs : n ≡ m → ⊥ = λ is. (let none : parent_in (set_at n None (entry_of t.nodes) m) ≡ None = ap (λ (k : ℕ). parent_in (set_at n None (entry_of t.nodes) k)) (sym is) ∙ ap parent_in (set-here n None (entry_of t.nodes)) in cc) in
+            let found = parent-told (entry_of t.nodes m) dir (ap parent_in (sym (set-there n None (entry_of t.nodes) m differs)) ∙ told_so) in
             let one : m ≡ n = apart u sound above m n found.0 new (there m differs ∙ found.1) here found.2 (sym (name-told t.nodes m found.0 found.1) ∙ (bytes_eq-Decides (name_of t.nodes m) name).0 same) in
             absurd (differs (sym one)))
       ]
@@ -335,5 +336,5 @@ module _ (t : Inside) (s : Seen) (view : seen_of t ≡ s) (h : IsShaped t) (u : 
         | inr other ↦ omega arith
       ]
 
-      linked : AreNested t.next (told_at n (Some new) (told_at n None (entry_of t.nodes))) (told_at n name (name_of t.nodes)) (told_at dir (insert (cut dir) (rank_in (name_of t.nodes) name (cut dir)) n) cut)
-      linked = tree-linked t.next t.next (told_at n None (entry_of t.nodes)) (name_of t.nodes) cut n dir new name unlinked (told-here n None (entry_of t.nodes)) positive (entry-low t s view h u n entry.0 entry.1) (omega arith) low refl free
+      linked : AreNested t.next (set_at n (Some new) (set_at n None (entry_of t.nodes))) (set_at n name (name_of t.nodes)) (set_at dir (insert (cut dir) (rank_in (name_of t.nodes) name (cut dir)) n) cut)
+      linked = tree-linked t.next t.next (set_at n None (entry_of t.nodes)) (name_of t.nodes) cut n dir new name unlinked (set-here n None (entry_of t.nodes)) positive (entry-low t s view h u n entry.0 entry.1) (omega arith) low refl free

@@ -16,18 +16,19 @@ use Rattle.hac_model.specs.declared.states.Body.TheVariants.{File, Dir, Symlink,
 use Rattle.hac_model.specs.declared.states.Entry.{Entry}
 use Rattle.hac_model.proofs.PathLemmas.{parent-directory}
 use Rattle.hac_model.proofs.TreeLemmas.{child-own, directory-no_item, entry_at-all}
-use Rattle.file_tree.specs.Documents.{numbers_from, unknown, with_entries, with_names}
-use Rattle.file_tree.specs.Nodes.{entries_below, entry_of, has_node, kids_of, name_of}
-use Rattle.file_tree.specs.Shape.{AreNested, HasNoOther, HasSpare, IsShaped, parent_in, state_of}
+use Rattle.tree_nodes.specs.Documents.{numbers_from, unknown, with_entries, with_names}
+use Rattle.file_tree.specs.Shape.{entries_below, AreNested, HasNoOther, HasSpare, IsShaped, state_of}
+use Rattle.tree_nodes.specs.Nodes.{entry_of, has_node, kids_of, name_of, set_at, parent_in}
 use Rattle.file_tree.specs.declared.tree.Tree.TheInside.{Inside}
-use Rattle.file_tree.proofs.BelowLemmas.{below-made}
+use Rattle.file_tree.proofs.BelowLemmas.{below-made, below-more}
 use Rattle.file_tree.proofs.ChildLemmas.{child-named, name-told, named-member, parent-told}
-use Rattle.file_tree.proofs.FoundLemmas.{among-has, has-among, has-not}
-use Rattle.file_tree.proofs.ListLemmas.{none-among}
+use Rattle.tree_nodes.proofs.FoundLemmas.{among-has, has-among, has-not}
+use Rattle.tree_nodes.proofs.ListLemmas.{none-among}
 use Rattle.file_tree.proofs.NestLemmas.{IsSynced, goes, tree-synced}
-use Rattle.file_tree.proofs.OverLemmas.{below-more, dirty_in, follow-same, long, named-follow, named-low, names-same, over-clean, over-follow, over-high, over-inside, over-low}
+use Rattle.tree_nodes.proofs.OverLemmas.{dirty_in, follow-same, long, named-follow, named-low, names-same, over-clean, over-follow, over-high, over-inside, over-low}
 use Rattle.file_tree.proofs.ReadLemmas.{seen-entry}
-use Rattle.file_tree.proofs.ShapeLemmas.{same-or-not, told_at, told-here, told-there, tree-same}
+use Rattle.tree_nodes.proofs.SetLemmas.{same-or-not, set-here, set-there}
+use Rattle.file_tree.proofs.ShapeLemmas.{tree-same}
 use Rattle.file_tree.proofs.StateLemmas.{state_with}
 
 mount-in : (o : Option Entry) → option_map_or is_mount (option_map (λ (e : Entry). e.body) o) false ≡ true → (e : Entry) × (o ≡ Some e) × (is_mount e.body ≡ true)
@@ -206,7 +207,7 @@ module _ (t : Inside) (h : IsShaped t) (mount : ℕ) (is : is_mount_at (state_of
         pub version : u.version ≡ t.version
         pub entries : (q : ℕ) → entry_of u.nodes q ≡ cond (leaves q) None (with_entries documents (entry_of t.nodes) q)
         pub named : (q : ℕ) → leaves q ≡ false → name_of u.nodes q ≡ with_names documents (name_of t.nodes) q
-        pub lists : (d : ℕ) → kids_of u.nodes d ≡ told_at mount (numbers_from find t.next xs) (λ n. cond (leaves n) [] (told_at mount [] (kids_of t.nodes) n)) d
+        pub lists : (d : ℕ) → kids_of u.nodes d ≡ set_at mount (numbers_from find t.next xs) (λ n. cond (leaves n) [] (set_at mount [] (kids_of t.nodes) n)) d
         pub numbers : (q : ℕ) → has_node u.nodes q ≡ cond (leaves q) false (has_node t.nodes q)
 
       module _ (m : IsRedone) where
@@ -250,24 +251,24 @@ module _ (t : Inside) (h : IsShaped t) (mount : ℕ) (is : is_mount_at (state_of
           nested =
               let all = tree-synced t.next mount (entry_of t.nodes) (entry_of u.nodes) (name_of t.nodes) (name_of u.nodes) (kids_of t.nodes) find xs h.lists synced in
               subst (λ (k : ℕ). AreNested k (entry_of u.nodes) (name_of u.nodes) (kids_of u.nodes)) (sym m.next)
-              (tree-same (t.next + length more) (entry_of u.nodes) (entry_of u.nodes) (name_of u.nodes) (name_of u.nodes) (told_at mount (numbers_from find t.next xs) (kids_of t.nodes)) (kids_of u.nodes) all (λ q. refl) (λ d q stands. refl) (λ d. m.lists d ∙ list d))
+              (tree-same (t.next + length more) (entry_of u.nodes) (entry_of u.nodes) (name_of u.nodes) (name_of u.nodes) (set_at mount (numbers_from find t.next xs) (kids_of t.nodes)) (kids_of u.nodes) all (λ q. refl) (λ d q stands. refl) (λ d. m.lists d ∙ list d))
             where
               -- a document that goes has no list
-              list : (d : ℕ) → told_at mount (numbers_from find t.next xs) (λ n. cond (leaves n) [] (told_at mount [] (kids_of t.nodes) n)) d ≡ told_at mount (numbers_from find t.next xs) (kids_of t.nodes) d
+              list : (d : ℕ) → set_at mount (numbers_from find t.next xs) (λ n. cond (leaves n) [] (set_at mount [] (kids_of t.nodes) n)) d ≡ set_at mount (numbers_from find t.next xs) (kids_of t.nodes) d
               list d = elim (same-or-not mount d) [
                 | inl same ↦
-                    ap (λ (k : ℕ). told_at mount (numbers_from find t.next xs) (λ n. cond (leaves n) [] (told_at mount [] (kids_of t.nodes) n)) k) (sym same)
-                    ∙ told-here mount (numbers_from find t.next xs) (λ n. cond (leaves n) [] (told_at mount [] (kids_of t.nodes) n))
-                    ∙ sym (told-here mount (numbers_from find t.next xs) (kids_of t.nodes))
-                    ∙ ap (λ (k : ℕ). told_at mount (numbers_from find t.next xs) (kids_of t.nodes) k) same
+                    ap (λ (k : ℕ). set_at mount (numbers_from find t.next xs) (λ n. cond (leaves n) [] (set_at mount [] (kids_of t.nodes) n)) k) (sym same)
+                    ∙ set-here mount (numbers_from find t.next xs) (λ n. cond (leaves n) [] (set_at mount [] (kids_of t.nodes) n))
+                    ∙ sym (set-here mount (numbers_from find t.next xs) (kids_of t.nodes))
+                    ∙ ap (λ (k : ℕ). set_at mount (numbers_from find t.next xs) (kids_of t.nodes) k) same
                 | inr other ↦
-                    told-there mount (numbers_from find t.next xs) (λ n. cond (leaves n) [] (told_at mount [] (kids_of t.nodes) n)) d other
-                    ∙ ap (λ (ns : List ℕ). cond (leaves d) [] ns) (told-there mount [] (kids_of t.nodes) d other)
+                    set-there mount (numbers_from find t.next xs) (λ n. cond (leaves n) [] (set_at mount [] (kids_of t.nodes) n)) d other
+                    ∙ ap (λ (ns : List ℕ). cond (leaves d) [] ns) (set-there mount [] (kids_of t.nodes) d other)
                     ∙ (elim (leaves d) as (λ b. leaves d ≡ b → cond b [] (kids_of t.nodes d) ≡ kids_of t.nodes d) [
                       | true ↦ (λ gone. sym (document-bare d (has-among (kids_of t.nodes mount) d (leaves-in d gone))))
                       | false ↦ (λ stays. refl)
                     ] refl)
-                    ∙ sym (told-there mount (numbers_from find t.next xs) (kids_of t.nodes) d other)
+                    ∙ sym (set-there mount (numbers_from find t.next xs) (kids_of t.nodes) d other)
               ]
 
           others : HasNoOther u.nodes u.next

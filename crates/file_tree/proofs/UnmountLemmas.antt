@@ -8,15 +8,16 @@ use Rattle.hac_model.specs.Tree.Mounting.{is_of_mount, without_such}
 use Rattle.hac_model.specs.Tree.{is_mount_at}
 use Rattle.hac_model.specs.Tree.Valid.{IsLayout}
 use Rattle.hac_model.specs.declared.states.Entry.{Entry}
-use Rattle.file_tree.specs.Nodes.{entries_below, entry_of, has_node, kids_of, name_of}
-use Rattle.file_tree.specs.Search.{rank_in}
-use Rattle.file_tree.specs.Shape.{AreNested, HasNoOther, HasSpare, IsShaped, parent_in, state_of}
+use Rattle.file_tree.specs.Shape.{entries_below, AreNested, HasNoOther, HasSpare, IsShaped, state_of}
+use Rattle.tree_nodes.specs.Nodes.{entry_of, has_node, kids_of, name_of, set_at, parent_in}
+use Rattle.tree_nodes.specs.Search.{rank_in}
 use Rattle.file_tree.specs.declared.tree.Tree.TheInside.{Inside}
-use Rattle.file_tree.proofs.FoundLemmas.{among-has, has-among, has-not}
+use Rattle.tree_nodes.proofs.FoundLemmas.{among-has, has-among, has-not}
 use Rattle.file_tree.proofs.NestLemmas.{IsSynced, tree-synced}
-use Rattle.file_tree.proofs.OverLemmas.{dirty_in}
+use Rattle.tree_nodes.proofs.OverLemmas.{dirty_in}
 use Rattle.file_tree.proofs.ReadLemmas.{entry_of-number}
-use Rattle.file_tree.proofs.ShapeLemmas.{same-or-not, told_at, told-here, told-there, tree-same, tree-unlinked}
+use Rattle.tree_nodes.proofs.SetLemmas.{same-or-not, set-here, set-there}
+use Rattle.file_tree.proofs.ShapeLemmas.{tree-same, tree-unlinked}
 use Rattle.file_tree.proofs.StateLemmas.{state_with}
 use Rattle.file_tree.proofs.SyncLemmas.{below-left, document-bare, dropped-clean, find, find-member, find-own, leaves, leaves-in, member, mount-clean, mount-entry, mount-low, mount-outside, root-outside, stays-by}
 
@@ -34,7 +35,7 @@ module _ (t : Inside) (h : IsShaped t) (mount : ℕ) (is : is_mount_at (state_of
   rest = remove (kids_of t.nodes dir) (rank_in (name_of t.nodes) (name_of t.nodes mount) (kids_of t.nodes dir))
 
   abbrev pub cut : ℕ → List ℕ
-  cut = told_at dir rest (kids_of t.nodes)
+  cut = set_at dir rest (kids_of t.nodes)
 
   -- a mount isn't in itself
   pub apart : mount ≡ dir → ⊥
@@ -51,10 +52,10 @@ module _ (t : Inside) (h : IsShaped t) (mount : ℕ) (is : is_mount_at (state_of
     pub record IsUnmounted : Type 0 where
       pub next : u.next ≡ t.next
       pub version : u.version ≡ t.version
-      pub entries : (q : ℕ) → entry_of u.nodes q ≡ told_at mount None emptied q
+      pub entries : (q : ℕ) → entry_of u.nodes q ≡ set_at mount None emptied q
       pub named : (q : ℕ) → nat_eq mount q ≡ false → inside q ≡ false → name_of u.nodes q ≡ name_of t.nodes q
-      pub lists : (d : ℕ) → kids_of u.nodes d ≡ told_at mount [] (λ n. cond (inside n) [] (told_at mount [] cut n)) d
-      pub numbers : (q : ℕ) → has_node u.nodes q ≡ told_at mount false (λ n. cond (inside n) false (has_node t.nodes n)) q
+      pub lists : (d : ℕ) → kids_of u.nodes d ≡ set_at mount [] (λ n. cond (inside n) [] (set_at mount [] cut n)) d
+      pub numbers : (q : ℕ) → has_node u.nodes q ≡ set_at mount false (λ n. cond (inside n) false (has_node t.nodes n)) q
 
     module _ (m : IsUnmounted) where
       -- an entry is of the mount where it is the mount, or in it
@@ -96,15 +97,15 @@ module _ (t : Inside) (h : IsShaped t) (mount : ℕ) (is : is_mount_at (state_of
       clean-unmounted q = ap dirty_in (m.entries q) ∙ (elim (same-or-not mount q) [
         | inl same ↦
             (let entry = mount-entry t h mount is in
-            ap (λ (k : ℕ). dirty_in (told_at mount None emptied k)) (sym same) ∙ ap dirty_in (told-here mount None emptied)
+            ap (λ (k : ℕ). dirty_in (set_at mount None emptied k)) (sym same) ∙ ap dirty_in (set-here mount None emptied)
             ∙ sym (ap dirty_in entry.1 ∙ mount-clean entry.0.body entry.2) ∙ ap (λ (k : ℕ). dirty_in (entry_of t.nodes k)) same)
-        | inr other ↦ ap dirty_in (told-there mount None emptied q other) ∙ (elim (inside q) as (λ b. inside q ≡ b → dirty_in (cond b None (entry_of t.nodes q)) ≡ dirty_in (entry_of t.nodes q)) [
+        | inr other ↦ ap dirty_in (set-there mount None emptied q other) ∙ (elim (inside q) as (λ b. inside q ≡ b → dirty_in (cond b None (entry_of t.nodes q)) ≡ dirty_in (entry_of t.nodes q)) [
           | true ↦ (λ gone. sym (dropped-clean t h mount is q (leaves-in t h mount is [] q gone)))
           | false ↦ (λ stays. refl)
         ] refl)
       ])
 
-      bare : AreNested t.next emptied (name_of t.nodes) (told_at mount [] (kids_of t.nodes))
+      bare : AreNested t.next emptied (name_of t.nodes) (set_at mount [] (kids_of t.nodes))
       bare =
           let same : t.next + length {A = List ℕ} [] ≡ t.next = omega arith in
           let synced : IsSynced t.next mount (entry_of t.nodes) emptied (name_of t.nodes) (name_of t.nodes) (kids_of t.nodes) (find t h mount is) [] = record {
@@ -118,7 +119,7 @@ module _ (t : Inside) (h : IsShaped t) (mount : ℕ) (is : is_mount_at (state_of
             follow = tt;
             rise = refl;
           } in
-          subst (λ (k : ℕ). AreNested k emptied (name_of t.nodes) (told_at mount [] (kids_of t.nodes))) same
+          subst (λ (k : ℕ). AreNested k emptied (name_of t.nodes) (set_at mount [] (kids_of t.nodes))) same
           (tree-synced t.next mount (entry_of t.nodes) emptied (name_of t.nodes) (name_of t.nodes) (kids_of t.nodes) (find t h mount is) [] h.lists synced)
 
       -- the mount is in its directory still
@@ -133,47 +134,47 @@ module _ (t : Inside) (h : IsShaped t) (mount : ℕ) (is : is_mount_at (state_of
         | false ↦ (λ stays. refl)
       ] refl
 
-      same-list : told_at mount [] (kids_of t.nodes) dir ≡ kids_of t.nodes dir
-      same-list = told-there mount [] (kids_of t.nodes) dir apart
+      same-list : set_at mount [] (kids_of t.nodes) dir ≡ kids_of t.nodes dir
+      same-list = set-there mount [] (kids_of t.nodes) dir apart
 
       -- the lists are those that are left
-      lists : (d : ℕ) → kids_of u.nodes d ≡ told_at dir (remove (told_at mount [] (kids_of t.nodes) dir) (rank_in (name_of t.nodes) (name_of t.nodes mount) (told_at mount [] (kids_of t.nodes) dir))) (told_at mount [] (kids_of t.nodes)) d
+      lists : (d : ℕ) → kids_of u.nodes d ≡ set_at dir (remove (set_at mount [] (kids_of t.nodes) dir) (rank_in (name_of t.nodes) (name_of t.nodes mount) (set_at mount [] (kids_of t.nodes) dir))) (set_at mount [] (kids_of t.nodes)) d
       lists d = m.lists d ∙ (elim (same-or-not mount d) [
         | inl same ↦
-            ap (λ (k : ℕ). told_at mount [] (λ n. cond (inside n) [] (told_at mount [] cut n)) k) (sym same)
-            ∙ told-here mount [] (λ n. cond (inside n) [] (told_at mount [] cut n))
-            ∙ sym (told-here mount [] (kids_of t.nodes))
-            ∙ sym (told-there dir (remove (told_at mount [] (kids_of t.nodes) dir) (rank_in (name_of t.nodes) (name_of t.nodes mount) (told_at mount [] (kids_of t.nodes) dir))) (told_at mount [] (kids_of t.nodes)) mount (λ is. apart (sym is)))
-            ∙ ap (λ (k : ℕ). told_at dir (remove (told_at mount [] (kids_of t.nodes) dir) (rank_in (name_of t.nodes) (name_of t.nodes mount) (told_at mount [] (kids_of t.nodes) dir))) (told_at mount [] (kids_of t.nodes)) k) same
+            ap (λ (k : ℕ). set_at mount [] (λ n. cond (inside n) [] (set_at mount [] cut n)) k) (sym same)
+            ∙ set-here mount [] (λ n. cond (inside n) [] (set_at mount [] cut n))
+            ∙ sym (set-here mount [] (kids_of t.nodes))
+            ∙ sym (set-there dir (remove (set_at mount [] (kids_of t.nodes) dir) (rank_in (name_of t.nodes) (name_of t.nodes mount) (set_at mount [] (kids_of t.nodes) dir))) (set_at mount [] (kids_of t.nodes)) mount (λ is. apart (sym is)))
+            ∙ ap (λ (k : ℕ). set_at dir (remove (set_at mount [] (kids_of t.nodes) dir) (rank_in (name_of t.nodes) (name_of t.nodes mount) (set_at mount [] (kids_of t.nodes) dir))) (set_at mount [] (kids_of t.nodes)) k) same
         | inr other ↦
-            told-there mount [] (λ n. cond (inside n) [] (told_at mount [] cut n)) d other
-            ∙ ap (λ (ns : List ℕ). cond (inside d) [] ns) (told-there mount [] cut d other)
+            set-there mount [] (λ n. cond (inside n) [] (set_at mount [] cut n)) d other
+            ∙ ap (λ (ns : List ℕ). cond (inside d) [] ns) (set-there mount [] cut d other)
             ∙ (elim (same-or-not dir d) [
               | inl here ↦
                   ap (λ (k : ℕ). cond (inside k) [] (cut k)) (sym here)
                   ∙ ap (λ (b : Bool). cond b [] (cut dir)) dir-stays
-                  ∙ told-here dir rest (kids_of t.nodes)
+                  ∙ set-here dir rest (kids_of t.nodes)
                   ∙ ap (λ (ns : List ℕ). remove ns (rank_in (name_of t.nodes) (name_of t.nodes mount) ns)) (sym same-list)
-                  ∙ sym (told-here dir (remove (told_at mount [] (kids_of t.nodes) dir) (rank_in (name_of t.nodes) (name_of t.nodes mount) (told_at mount [] (kids_of t.nodes) dir))) (told_at mount [] (kids_of t.nodes)))
-                  ∙ ap (λ (k : ℕ). told_at dir (remove (told_at mount [] (kids_of t.nodes) dir) (rank_in (name_of t.nodes) (name_of t.nodes mount) (told_at mount [] (kids_of t.nodes) dir))) (told_at mount [] (kids_of t.nodes)) k) here
+                  ∙ sym (set-here dir (remove (set_at mount [] (kids_of t.nodes) dir) (rank_in (name_of t.nodes) (name_of t.nodes mount) (set_at mount [] (kids_of t.nodes) dir))) (set_at mount [] (kids_of t.nodes)))
+                  ∙ ap (λ (k : ℕ). set_at dir (remove (set_at mount [] (kids_of t.nodes) dir) (rank_in (name_of t.nodes) (name_of t.nodes mount) (set_at mount [] (kids_of t.nodes) dir))) (set_at mount [] (kids_of t.nodes)) k) here
               | inr elsewhere ↦
-                  ap (λ (ns : List ℕ). cond (inside d) [] ns) (told-there dir rest (kids_of t.nodes) d elsewhere)
+                  ap (λ (ns : List ℕ). cond (inside d) [] ns) (set-there dir rest (kids_of t.nodes) d elsewhere)
                   ∙ (elim (inside d) as (λ b. inside d ≡ b → cond b [] (kids_of t.nodes d) ≡ kids_of t.nodes d) [
                     | true ↦ (λ gone. sym (document-bare t h mount is d (has-among (kids_of t.nodes mount) d (leaves-in t h mount is [] d gone))))
                     | false ↦ (λ stays. refl)
                   ] refl)
-                  ∙ sym (told-there mount [] (kids_of t.nodes) d other)
-                  ∙ sym (told-there dir (remove (told_at mount [] (kids_of t.nodes) dir) (rank_in (name_of t.nodes) (name_of t.nodes mount) (told_at mount [] (kids_of t.nodes) dir))) (told_at mount [] (kids_of t.nodes)) d elsewhere)
+                  ∙ sym (set-there mount [] (kids_of t.nodes) d other)
+                  ∙ sym (set-there dir (remove (set_at mount [] (kids_of t.nodes) dir) (rank_in (name_of t.nodes) (name_of t.nodes mount) (set_at mount [] (kids_of t.nodes) dir))) (set_at mount [] (kids_of t.nodes)) d elsewhere)
             ])
       ])
 
       nested : AreNested u.next (entry_of u.nodes) (name_of u.nodes) (kids_of u.nodes)
       nested = subst (λ (k : ℕ). AreNested k (entry_of u.nodes) (name_of u.nodes) (kids_of u.nodes)) (sym m.next)
-          (tree-same t.next (told_at mount None emptied) (entry_of u.nodes) (name_of t.nodes) (name_of u.nodes) (told_at dir (remove (told_at mount [] (kids_of t.nodes) dir) (rank_in (name_of t.nodes) (name_of t.nodes mount) (told_at mount [] (kids_of t.nodes) dir))) (told_at mount [] (kids_of t.nodes))) (kids_of u.nodes)
-          (tree-unlinked t.next emptied (name_of t.nodes) (told_at mount [] (kids_of t.nodes)) mount dir bare emptied-stands)
+          (tree-same t.next (set_at mount None emptied) (entry_of u.nodes) (name_of t.nodes) (name_of u.nodes) (set_at dir (remove (set_at mount [] (kids_of t.nodes) dir) (rank_in (name_of t.nodes) (name_of t.nodes mount) (set_at mount [] (kids_of t.nodes) dir))) (set_at mount [] (kids_of t.nodes))) (kids_of u.nodes)
+          (tree-unlinked t.next emptied (name_of t.nodes) (set_at mount [] (kids_of t.nodes)) mount dir bare emptied-stands)
           (λ q. ap parent_in (m.entries q)) names lists)
         where
-          names : (d q : ℕ) → parent_in (told_at mount None emptied q) ≡ Some d → name_of u.nodes q ≡ name_of t.nodes q
+          names : (d q : ℕ) → parent_in (set_at mount None emptied q) ≡ Some d → name_of u.nodes q ≡ name_of t.nodes q
           names d q there = elim (nat_eq mount q) as (λ b. nat_eq mount q ≡ b → parent_in (cond b None (emptied q)) ≡ Some d → name_of u.nodes q ≡ name_of t.nodes q) [
             | true ↦ (λ same never. absurd cc)
             | false ↦ (λ other there. elim (inside q) as (λ b. inside q ≡ b → parent_in (cond b None (entry_of t.nodes q)) ≡ Some d → name_of u.nodes q ≡ name_of t.nodes q) [
@@ -206,7 +207,7 @@ module _ (t : Inside) (h : IsShaped t) (mount : ℕ) (is : is_mount_at (state_of
           root =
               let entry = mount-entry t h mount is in
               m.numbers 0
-              ∙ told-there mount false (λ n. cond (inside n) false (has_node t.nodes n)) 0 (λ same.
+              ∙ set-there mount false (λ n. cond (inside n) false (has_node t.nodes n)) 0 (λ same.
               let none : entry_of t.nodes mount ≡ None = ap (λ (k : ℕ). entry_of t.nodes k) same ∙ h.lists.root in
               let some : entry_of t.nodes mount ≡ Some entry.0 = entry.1 in
               cc)

@@ -1,6 +1,5 @@
 pub mod Ready
-pub mod Nodes
-pub mod Search
+pub mod Bodies
 pub mod Documents
 pub mod Seen
 pub mod Shape

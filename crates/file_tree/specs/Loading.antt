@@ -9,11 +9,11 @@ use Rattle.hac_model.specs.Tree.Events.{edited}
 use Rattle.hac_model.specs.Tree.{entry_at, is_dirty}
 use Rattle.hac_model.specs.declared.states.Entry.{Entry}
 use Rattle.file_tree.specs.Answers.{is_dirty_at}
-use Rattle.file_tree.specs.Nodes.{entry_of, has_node, kids_of, name_of}
-use Rattle.file_tree.specs.Search.{rank_in}
-use Rattle.file_tree.specs.Shape.{AreNested, NamesRise}
+use Rattle.tree_nodes.specs.Nodes.{entry_of, has_node, kids_of, name_of}
+use Rattle.tree_nodes.specs.Search.{rank_in, NamesRise}
+use Rattle.file_tree.specs.Shape.{AreNested}
 use Rattle.file_tree.specs.declared.loading.Loading.{Loading}
-use Rattle.file_tree.specs.declared.nodes.Node.{Node}
+use Rattle.tree_nodes.specs.declared.nodes.Node.{Node}
 
 -- an entry without its marks and answers
 abbrev pub bare_entry : Entry → Entry

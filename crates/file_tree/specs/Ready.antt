@@ -5,10 +5,10 @@ use Rattle.hac_model.specs.Script.PathWords.{untested_word}
 use Rattle.hac_model.specs.declared.paths.PathWord.{PathWord}
 use Rattle.hac_model.specs.declared.states.State.{State}
 use Rattle.file_tree.specs.Answers.{is_dirty_at}
-use Rattle.file_tree.specs.declared.nodes.NewBody.{NewBody}
-use Rattle.file_tree.specs.declared.nodes.NewBody.TheVariants as new
+use Rattle.file_tree.specs.declared.bodies.NewBody.{NewBody}
 use Rattle.file_tree.specs.declared.ready.Ready.{Ready}
 use Rattle.file_tree.specs.declared.ready.Ready.TheVariants.{Nothing, Add, Link, Move, Text, Mount, Sync}
+use Rattle.file_tree.specs.declared.bodies.NewBody.TheVariants as new
 use Rattle.file_tree.specs.declared.tree.EntryKind.TheVariants as kind
 
 -- the file that the prepared change will make dirty, given the number of a new entry

@@ -1,39 +1,34 @@
 -- How a tree keeps a state.
-use Rattle.std.specs.Prelude.{◌≡◌, ℕ, ◌+◌, ◌<◌, ◌≤◌, false, List, [], ◌∷◌, Option, Some, None, IsTrue}
-use Rattle.std.specs.List.{AllByRecursion}
+use Rattle.std.specs.Prelude.{◌≡◌, ℕ, zero, suc, ◌+◌, ◌<◌, ◌≤◌, false, List, [], ◌++◌, Option, Some, None, IsTrue}
 use Rattle.std.specs.BTreeSet.{contains}
-use Rattle.std.specs.Option.{option_map}
+use Rattle.std.specs.Option.{option_to_list}
 use Rattle.std.specs.Ordering.{nat_cmp}
 use Rattle.indexmap.specs.IndexMap.{IndexMap}
 use Rattle.hac_model.specs.Tree.Depends.{Among}
 use Rattle.hac_model.specs.Tree.Limits.{counts}
-use Rattle.hac_model.specs.Tree.Listing.{is_before}
 use Rattle.hac_model.specs.Tree.Valid.{IsLayout}
 use Rattle.hac_model.specs.declared.states.Entry.{Entry}
 use Rattle.hac_model.specs.declared.states.State.{State}
-use Rattle.file_tree.specs.Documents.{numbers_up}
-use Rattle.file_tree.specs.Nodes.{entries_below, entry_of, has_node, kids_of, name_of, spare_of}
+use Rattle.tree_nodes.specs.Documents.{numbers_up}
+use Rattle.tree_nodes.specs.Nodes.{entry_of, has_node, kids_of, name_of, parent_in, spare_of}
+use Rattle.tree_nodes.specs.Search.{NamesRise}
 use Rattle.file_tree.specs.Ready.{is_to_index}
 use Rattle.file_tree.specs.Seen.{Seen}
-use Rattle.file_tree.specs.declared.nodes.Node.{Node}
+use Rattle.tree_nodes.specs.declared.nodes.Node.{Node}
 use Rattle.file_tree.specs.declared.ready.Ready.{Ready}
 use Rattle.file_tree.specs.declared.ready.Ready.TheVariants.{Nothing, Add, Link, Move, Text, Mount, Sync}
 use Rattle.file_tree.specs.declared.tree.Tree.TheInside.{Inside}
+
+-- the entries of the numbers below a number, in order, given the entry of each
+abbrev pub entries_below : ℕ → (ℕ → Option Entry) → List Entry
+entries_below zero at = []
+entries_below (suc number) at = entries_below number at ++ option_to_list (at number)
 
 abbrev pub state_of : Inside → State
 state_of tree = record { version = tree.version; next = tree.next; entries = entries_below tree.next (entry_of tree.nodes); sessions = [] }
 
 abbrev pub seen_of : Inside → Seen
 seen_of tree = record { state = state_of tree; ready = tree.ready }
-
--- the names of the numbers rise
-abbrev pub NamesRise : (ℕ → List ℕ) → List ℕ → Type 0
-NamesRise names [] = Unit {0}
-NamesRise names (number ∷ numbers) = AllByRecursion (λ other. IsTrue (is_before (names number) (names other))) numbers × NamesRise names numbers
-
--- the directory of the entry, if it has one
-abbrev pub parent_in : Option Entry → Option ℕ
-parent_in entry = option_map (λ entry. entry.parent) entry
 
 -- the lists of children are those of the entries, given the entry, the name and the children of each number
 pub record AreNested (next : ℕ) (at : ℕ → Option Entry) (names : ℕ → List ℕ) (kids : ℕ → List ℕ) : Type 0 where

@@ -1,6 +1,5 @@
 //! Changes of the tree. Those that may want memory are prepared, and no change itself takes any.
-ghost use Rattle.std.specs.Prelude.{◌≡◌, ◌<◌, ◌&&◌, ◌||◌, not, nat_eq, ℕ, insert, if◌then◌else◌};
-ghost use Rattle.std.specs.Prelude.{Some, OnOk, OnErr, IsSome, IsTrue};
+ghost use Rattle.std.specs.Prelude.{◌≡◌, ◌&&◌, ◌||◌, not, ℕ, Some, OnOk, OnErr, IsSome, IsTrue};
 ghost use Rattle.std.specs.BTreeSet.{contains};
 ghost use Rattle.std.specs.Ordering.{nat_cmp};
 ghost use Rattle.hac_model.specs.Tree.Events.{added, apply, asking, changed_at, edited, indexed};
@@ -9,21 +8,18 @@ ghost use Rattle.hac_model.specs.Tree.Limits.{counts};
 ghost use Rattle.hac_model.specs.Tree.{entry_at, is_directory_at, is_file_at};
 ghost use Rattle.hac_model.specs.Script.PathWords.{is_target, untested_word};
 ghost use Rattle.file_tree.specs.Answers.{is_dirty_at};
+ghost use Rattle.file_tree.specs.Bodies.{body_from};
 ghost use Rattle.file_tree.specs.Changes.{GotReady, HasBecome, MayBecome};
-ghost use Rattle.file_tree.specs.Nodes.{body_from, entry_of, has_node, kids_of, name_of, spare_of};
 ghost use Rattle.file_tree.specs.Ready.{is_number, is_to_index, ready_for};
-ghost use Rattle.file_tree.specs.Search.{rank_in};
-ghost use Rattle.file_tree.specs.Shape.{NamesRise, parent_in};
 
-use crate::nodes::{self, Content, NewBody, Nodes, children_at};
+use crate::bodies::{NewBody, new_content};
 use crate::ready::{Ready, awaited, word_in};
-use crate::searching::rank;
-use crate::targets::read_word;
 use crate::tree::{EntryKind, Tree};
 use entry_counts::{kept_bytes, of_file, replaced};
 use hac_model::{Counts, Event, Memory, Name, Number, Query, Text};
 use std::collections::BTreeSet;
 use std::mem;
+use tree_nodes::{insert_named, parent_at, place_at, read_word};
 
 impl Tree {
     /// Prepares a new entry of this kind in a directory. The state doesn't change, whatever the
@@ -34,8 +30,8 @@ impl Tree {
         ensures err { OnErr result (GotReady Ready.Nothing self.old self.new) }
     {
         self.forget();
-        nodes::prepare(self.alloc, &mut self.nodes, self.next)?;
-        nodes::reserve_child(&mut self.nodes, dir)?;
+        tree_nodes::prepare(self.alloc, &mut self.nodes, self.next)?;
+        tree_nodes::reserve_child(&mut self.nodes, dir)?;
         let ready = Ready::Add { dir, kind };
         add_number(&mut self.to_index, awaited(self.next, &ready))?;
         self.ready = ready;
@@ -52,8 +48,8 @@ impl Tree {
     {
         self.forget();
         let word = read_word(self.alloc, target)?;
-        nodes::prepare(self.alloc, &mut self.nodes, self.next)?;
-        nodes::reserve_child(&mut self.nodes, dir)?;
+        tree_nodes::prepare(self.alloc, &mut self.nodes, self.next)?;
+        tree_nodes::reserve_child(&mut self.nodes, dir)?;
         self.ready = Ready::Link { dir, word };
         Ok(())
     }
@@ -65,7 +61,7 @@ impl Tree {
         ensures err { OnErr result (GotReady Ready.Nothing self.old self.new) }
     {
         self.forget();
-        nodes::reserve_child(&mut self.nodes, dir)?;
+        tree_nodes::reserve_child(&mut self.nodes, dir)?;
         self.ready = Ready::Move { dir };
         Ok(())
     }
@@ -109,7 +105,7 @@ impl Tree {
         let word = word_in(mem::replace(&mut self.ready, Ready::Nothing));
         let number = self.next;
         insert_named(&mut self.nodes, dir, name.as_bytes(), number);
-        nodes::put(&mut self.nodes, number, dir, name, Content::new(body, word));
+        tree_nodes::put(&mut self.nodes, number, dir, name, new_content(body, word));
         self.next = Number::new(number.get() + 1);
         self.counts = counts;
     }
@@ -124,9 +120,9 @@ impl Tree {
         self.ready = Ready::Nothing;
         let parent = parent_at(&self.nodes, entry);
         let place = place_at(&self.nodes, parent, entry);
-        nodes::drop_child(&mut self.nodes, parent, place);
+        tree_nodes::drop_child(&mut self.nodes, parent, place);
         insert_named(&mut self.nodes, dir, name.as_bytes(), entry);
-        nodes::reseat(&mut self.nodes, entry, dir, name);
+        tree_nodes::reseat(&mut self.nodes, entry, dir, name);
         self.counts = counts;
     }
 
@@ -139,8 +135,8 @@ impl Tree {
         self.forget();
         let parent = parent_at(&self.nodes, entry);
         let place = place_at(&self.nodes, parent, entry);
-        nodes::drop_child(&mut self.nodes, parent, place);
-        nodes::take_out(&mut self.nodes, entry);
+        tree_nodes::drop_child(&mut self.nodes, parent, place);
+        tree_nodes::take_out(&mut self.nodes, entry);
         drop_number(&mut self.to_index, Some(entry));
         self.counts = counts;
     }
@@ -153,7 +149,7 @@ impl Tree {
         ensures { HasBecome (changed_at self.old.state file (edited (rewritten text))) self.new }
     {
         self.ready = Ready::Nothing;
-        nodes::set_text(&mut self.nodes, file, text);
+        tree_nodes::set_text(&mut self.nodes, file, text);
         self.counts = counts;
     }
 
@@ -163,7 +159,7 @@ impl Tree {
         ensures { HasBecome (changed_at self.old.state dir (edited (asking query))) self.new }
     {
         self.forget();
-        nodes::set_query(&mut self.nodes, dir, query);
+        tree_nodes::set_query(&mut self.nodes, dir, query);
         self.counts = counts;
     }
 
@@ -173,7 +169,7 @@ impl Tree {
         ensures { HasBecome (changed_at self.old.state dir (edited plain_body)) self.new }
     {
         self.forget();
-        nodes::clear_query(&mut self.nodes, dir);
+        tree_nodes::clear_query(&mut self.nodes, dir);
         self.counts = counts;
     }
 
@@ -205,7 +201,7 @@ impl Tree {
         ensures { HasBecome (changed_at self.old.state file (edited indexed)) self.new }
     {
         drop_number(&mut self.to_index, Some(file));
-        nodes::show_text(&mut self.nodes, file);
+        tree_nodes::show_text(&mut self.nodes, file);
         self.counts = counts;
     }
 }
@@ -231,43 +227,4 @@ fn drop_number(numbers: &mut BTreeSet<u64>, number: Option<Number>)
     if let Some(number) = number {
         numbers.remove(&number.get());
     }
-}
-
-/// Inserts a number, which is to have the name, into the list of a directory's entries. The list
-/// has a place for one more.
-pub(crate) fn insert_named(nodes: &mut Nodes, dir: Number, name: &[u8], number: Number)
-    requires { 0 < spare_of nodes.old dir }
-    ensures numbers { (q : ℕ) → has_node nodes.new q ≡ has_node nodes.old q }
-    ensures entries { (q : ℕ) → entry_of nodes.new q ≡ entry_of nodes.old q }
-    ensures names { (q : ℕ) → name_of nodes.new q ≡ name_of nodes.old q }
-    ensures kids { NamesRise (name_of nodes.old) (kids_of nodes.old dir) → (q : ℕ) →
-        kids_of nodes.new q ≡ if nat_eq dir q then insert (kids_of nodes.old dir)
-        (rank_in (name_of nodes.old) name.now (kids_of nodes.old dir)) number else kids_of nodes.old
-        q }
-{
-    let place = rank(nodes, &children_at(nodes, dir), name);
-    nodes::insert_child(nodes, dir, place, number);
-}
-
-/// The directory of an entry.
-pub(crate) fn parent_at(nodes: &Nodes, entry: Number) -> Number
-    requires { IsSome (entry_of nodes.now entry) }
-    ensures { parent_in (entry_of nodes.now entry) ≡ Some result }
-{
-    match nodes::entry_at(nodes, entry) {
-        Some(node) => node.parent,
-        None => unreachable!(),
-    }
-}
-
-/// The place of an entry in the list of its directory.
-pub(crate) fn place_at(nodes: &Nodes, dir: Number, entry: Number) -> usize
-    ensures { NamesRise (name_of nodes.now) (kids_of nodes.now dir) →
-        result ≡ rank_in (name_of nodes.now) (name_of nodes.now entry) (kids_of nodes.now dir) }
-{
-    rank(
-        nodes,
-        &children_at(nodes, dir),
-        nodes::name_at(nodes, entry),
-    )
 }

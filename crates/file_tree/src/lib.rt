@@ -2,17 +2,14 @@
 //! It knows no line, no store and no outside.
 #![tactic(auto)]
 
+mod bodies;
 mod changing;
-mod documents;
 mod loading;
 mod mounting;
-mod nodes;
 mod paths;
 mod ready;
-mod searching;
-mod targets;
 mod tree;
 
-pub use nodes::NewBody;
+pub use bodies::NewBody;
 pub use ready::Ready;
 pub use tree::{EntryKind, Tree};

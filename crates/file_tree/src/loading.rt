@@ -10,19 +10,16 @@ ghost use Rattle.hac_model.specs.Tree.Limits as limits;
 ghost use Rattle.hac_model.specs.Tree.Valid.{IsLayout, IsSound};
 ghost use Rattle.hac_model.specs.Tree.{is_dirty};
 ghost use Rattle.file_tree.specs.Loading.{IsLoaded, IsPlaced, IsPrepared, StandsAlone};
-ghost use Rattle.file_tree.specs.Nodes.{body_of, entry_of, has_node, kids_of, name_of, shown_in};
-ghost use Rattle.file_tree.specs.Nodes.{spare_of};
+ghost use Rattle.tree_nodes.specs.Nodes.{AreSame, body_of, has_node, shown_in, spare_of};
 
-use crate::changing::{add_number, insert_named};
-use crate::nodes::{self, Content, Nodes, Shown};
 use crate::ready::Ready;
-use crate::targets::{Target, read_word};
 use crate::tree::Tree;
 use hac_model::{Body, Counts, Entry, Memory, Number, State, Text, Version};
 use indexmap::IndexMap;
 use std::alloc::Global;
 use std::collections::BTreeSet;
 use tiered_list::TieredList;
+use tree_nodes::{Content, Nodes, Shown, Target, insert_named, read_word};
 
 /// The tree as far as it is made.
 #[derive(Drop)]
@@ -75,7 +72,7 @@ fn prepared(alloc: Global, next: Number, entries: &[Entry]) -> Result<Loading, M
     ensures { IfOk result (IsPrepared next entries.now) }
 {
     let mut nodes = IndexMap::new(alloc);
-    nodes::prepare(alloc, &mut nodes, Number::ROOT)?;
+    tree_nodes::prepare(alloc, &mut nodes, Number::ROOT)?;
     prepare_all(alloc, &mut nodes, entries)?;
     Ok(Loading {
         next,
@@ -92,7 +89,7 @@ fn prepare_all(alloc: Global, nodes: &mut Nodes, entries: &[Entry]) -> Result<()
     ensures alone { (q : ℕ) → StandsAlone nodes.new q }
 {
     for entry in entries {
-        nodes::prepare(alloc, nodes, entry.number)?;
+        tree_nodes::prepare(alloc, nodes, entry.number)?;
     }
     Ok(())
 }
@@ -132,7 +129,7 @@ impl Loading {
         let content = content_of(alloc, body)?;
         self.reserve(number, parent, &content)?;
         insert_named(&mut self.nodes, parent, name.as_bytes(), number);
-        nodes::put(&mut self.nodes, number, parent, name, content);
+        tree_nodes::put(&mut self.nodes, number, parent, name, content);
         Ok(())
     }
 
@@ -142,15 +139,12 @@ impl Loading {
         requires { IsTrue (has_node self.old.nodes dir) }
         ensures next { self.new.next ≡ self.old.next }
         ensures place { OnOk result (0 < spare_of self.new.nodes dir) }
-        ensures numbers { (q : ℕ) → has_node self.new.nodes q ≡ has_node self.old.nodes q }
-        ensures entries { (q : ℕ) → entry_of self.new.nodes q ≡ entry_of self.old.nodes q }
-        ensures names { (q : ℕ) → name_of self.new.nodes q ≡ name_of self.old.nodes q }
-        ensures kids { (q : ℕ) → kids_of self.new.nodes q ≡ kids_of self.old.nodes q }
+        ensures same { AreSame self.old.nodes self.new.nodes }
         ensures dirty { OnOk result ((q : ℕ) → contains nat_cmp self.new.to_index q ≡
             (contains nat_cmp self.old.to_index q ||
             (is_dirty (body_of content.now) && nat_eq number q))) }
     {
-        nodes::reserve_child(&mut self.nodes, dir)?;
+        tree_nodes::reserve_child(&mut self.nodes, dir)?;
         if content.is_dirty() {
             self.to_index.insert(number.get())?;
         }

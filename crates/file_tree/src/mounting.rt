@@ -1,22 +1,38 @@
 //! Mounts with their documents: they come, take over what their spaces have now, and go. Memory is
 //! taken beforehand.
-ghost use Rattle.std.specs.Prelude.{◌≡◌, ◌≤◌, [], length, IsTrue, OnOk, OnErr};
+ghost use Rattle.std.specs.Prelude.{◌≡◌, ◌<◌, ◌≤◌, ◌^◌, [], length, IsTrue, OnOk, OnErr};
 ghost use Rattle.hac_model.specs.Tree.Mounting.{are_documents, do_names_rise, fresh, is_gone};
 ghost use Rattle.hac_model.specs.Tree.Mounting.{is_of_mount, mounted, with_documents, without_such};
 ghost use Rattle.hac_model.specs.Tree.{is_directory_at, is_mount_at};
 ghost use Rattle.file_tree.specs.Changes.{GotReady, HasBecome, MayBecome};
 ghost use Rattle.file_tree.specs.Documents.{numbers_for};
 
-use crate::changing::{insert_named, parent_at, place_at};
-use crate::documents::{list_numbers, numbers_up, prepare_nodes, put_unknown, take_dropped};
-use crate::nodes::{self, Content, children_at};
 use crate::ready::{Ready, numbers_in};
 use crate::tree::Tree;
 use hac_model::{Counts, DOCS_LIMIT, Memory, Name, Number, Seq};
 use std::mem;
 use tiered_list::{Items, TieredList};
+use tree_nodes::{
+    Content, children_at, insert_named, list_numbers, numbers_up, parent_at, place_at,
+    prepare_nodes, put_unknown, take_dropped,
+};
 
 impl Tree {
+    /// How many of the names a directory doesn't have.
+    pub fn count_fresh(&self, dir: Number, names: &[Name]) -> u64
+        ensures count { result ≡ length (fresh self.now.state dir names.now) }
+        ensures few { result ≤ length names.now }
+        ensures small { result < 2 ^ 63 }
+    {
+        let mut count = 0;
+        for name in names {
+            if self.child(dir, name).is_none() {
+                count += 1;
+            }
+        }
+        count
+    }
+
     /// Prepares a mount with `count` documents in a directory. The state doesn't change, whatever
     /// the answer.
     pub fn prepare_mount(&mut self, dir: Number, count: u64) -> Result<(), Memory>
@@ -28,7 +44,7 @@ impl Tree {
         self.forget();
         let first = self.next.get() + 1;
         prepare_nodes(self.alloc, &mut self.nodes, self.next.get(), first + count)?;
-        nodes::reserve_child(&mut self.nodes, dir)?;
+        tree_nodes::reserve_child(&mut self.nodes, dir)?;
         self.documents = TieredList::from_vec(self.alloc, numbers_up(self.alloc, first, count)?);
         self.ready = Ready::Mount { dir, count };
         Ok(())
@@ -52,7 +68,7 @@ impl Tree {
         self.ready = Ready::Nothing;
         let mount = self.next;
         insert_named(&mut self.nodes, dir, name.as_bytes(), mount);
-        nodes::put(&mut self.nodes, mount, dir, name, Content::Mount { space });
+        tree_nodes::put(&mut self.nodes, mount, dir, name, Content::Mount { space });
         let first = Number::new(mount.get() + 1);
         self.next = put_unknown(
             &mut self.nodes,
@@ -61,7 +77,7 @@ impl Tree {
             first,
             documents,
         );
-        nodes::put_children(&mut self.nodes, mount, &mut self.documents);
+        tree_nodes::put_children(&mut self.nodes, mount, &mut self.documents);
         self.counts = counts;
     }
 
@@ -106,10 +122,10 @@ impl Tree {
         let ready = mem::replace(&mut self.ready, Ready::Nothing);
         let mut numbers = TieredList::from_vec(self.alloc, numbers_in(self.alloc, ready));
         let mut known = TieredList::new(self.alloc);
-        nodes::put_children(&mut self.nodes, mount, &mut known);
+        tree_nodes::put_children(&mut self.nodes, mount, &mut known);
         self.next = put_unknown(&mut self.nodes, &known.items(), mount, self.next, documents);
         take_dropped(&mut self.nodes, &known.items(), &numbers.items());
-        nodes::put_children(&mut self.nodes, mount, &mut numbers);
+        tree_nodes::put_children(&mut self.nodes, mount, &mut numbers);
         self.counts = counts;
     }
 
@@ -122,11 +138,11 @@ impl Tree {
         self.forget();
         let parent = parent_at(&self.nodes, mount);
         let place = place_at(&self.nodes, parent, mount);
-        nodes::drop_child(&mut self.nodes, parent, place);
+        tree_nodes::drop_child(&mut self.nodes, parent, place);
         let mut documents = TieredList::new(self.alloc);
-        nodes::put_children(&mut self.nodes, mount, &mut documents);
+        tree_nodes::put_children(&mut self.nodes, mount, &mut documents);
         take_dropped(&mut self.nodes, &documents.items(), &Items::from_slice(&[]));
-        nodes::take_out(&mut self.nodes, mount);
+        tree_nodes::take_out(&mut self.nodes, mount);
         self.counts = counts;
     }
 }

@@ -4,9 +4,9 @@ ghost use Rattle.std.specs.List.{list_any};
 ghost use Rattle.hac_model.specs.Tree.{ancestors, extends, path_of};
 ghost use Rattle.hac_model.specs.Tree.{is_live};
 
-use crate::nodes::entry_at;
 use crate::tree::Tree;
 use hac_model::{Memory, Number, PATH_LIMIT, Path};
+use tree_nodes::entry_at;
 
 impl Tree {
     /// The path of an entry. That of the root has no names.

@@ -13,11 +13,9 @@ ghost use Rattle.hac_model.specs.Tree.{is_symlink_at, raised, root_alone, target
 ghost use Rattle.hac_model.specs.Tree.Valid.{IsLayout};
 ghost use Rattle.file_tree.specs.Answers.{entries_behind, entry_kind, entry_kind_at, is_dirty_at};
 ghost use Rattle.file_tree.specs.Answers.{numbers_of};
-ghost use Rattle.file_tree.specs.Nodes.{body_of};
+ghost use Rattle.tree_nodes.specs.Nodes.{body_of};
 
-use crate::nodes::{self, Content, Nodes, children_at};
 use crate::ready::Ready;
-use crate::searching::named;
 use entry_counts::of_root;
 use hac_model::{Counts, Memory, Name, Number, PathWord, Query, Text, Version};
 use indexmap::IndexMap;
@@ -26,6 +24,7 @@ use std::collections::BTreeSet;
 use std::marker::Model;
 use std::ops::Bound;
 use tiered_list::{Items, TieredList};
+use tree_nodes::{Content, Nodes, children_at, named};
 
 /// The tree, seen as its state and as what it is ready for.
 #[derive(Drop)]
@@ -84,7 +83,7 @@ impl Tree {
             record { state = root_alone version; ready = Ready.Nothing }) }
     {
         let mut nodes = IndexMap::new(alloc);
-        nodes::prepare(alloc, &mut nodes, Number::ROOT)?;
+        tree_nodes::prepare(alloc, &mut nodes, Number::ROOT)?;
         Ok(Tree {
             alloc,
             version,
@@ -147,7 +146,7 @@ impl Tree {
     pub fn parent(&self, entry: Number) -> Number
         ensures { result ≡ parent_of self.now.state entry }
     {
-        match nodes::entry_at(&self.nodes, entry) {
+        match tree_nodes::entry_at(&self.nodes, entry) {
             Some(node) => node.parent,
             None => Number::ROOT,
         }
@@ -317,7 +316,7 @@ impl Tree {
     pub(crate) fn content(&self, entry: Number) -> Option<&Content>
         ensures { option_map body_of (option_copied result) ≡ body_at self.now.state.entries entry }
     {
-        match nodes::entry_at(&self.nodes, entry) {
+        match tree_nodes::entry_at(&self.nodes, entry) {
             Some(node) => Some(&node.content),
             None => None,
         }
@@ -336,7 +335,7 @@ impl Tree {
         ensures { option_map (λ entry. entry.name) (entry_at self.now.state.entries entry) ≡
             Some result.now }
     {
-        match nodes::entry_at(&self.nodes, entry) {
+        match tree_nodes::entry_at(&self.nodes, entry) {
             Some(node) => &node.name,
             None => unreachable!(),
         }
@@ -358,7 +357,7 @@ impl Tree {
         ensures layout { IsLayout self.now.state }
     {
         self.know_layout();
-        let mut numbers = nodes::placed_numbers(alloc, &self.nodes)?;
+        let mut numbers = tree_nodes::placed_numbers(alloc, &self.nodes)?;
         numbers.sort_unstable();
         Ok(numbers)
     }

@@ -21,7 +21,7 @@ pub(crate) fn next_after(tree: &Tree, event: &Event) -> Number
         }
         Event::Smount { docs, .. } => Number::new(next + 1 + docs.as_slice().len() as u64),
         Event::Ssync { mount, docs, .. } => {
-            Number::new(next + count_fresh(tree, *mount, docs.as_slice()))
+            Number::new(next + tree.count_fresh(*mount, docs.as_slice()))
         }
         _ => Number::new(next),
     }
@@ -33,20 +33,6 @@ fn first_number(tree: &Tree) -> u64
     ensures small { result < 2 ^ 62 }
 {
     tree.next_number().get()
-}
-
-/// How many of the names a directory doesn't have.
-fn count_fresh(tree: &Tree, dir: Number, names: &[Name]) -> u64
-    ensures count { result ≡ length (fresh tree.now.state dir names.now) }
-    ensures few { result < 2 ^ 63 }
-{
-    let mut count = 0;
-    for name in names {
-        if tree.child(dir, name).is_none() {
-            count += 1;
-        }
-    }
-    count
 }
 
 /// Whether a new entry is an item.

@@ -17,7 +17,7 @@ use Rattle.hac_model.proofs.ChangeLemmas.{entry_at-new, entry_at-other}
 use Rattle.hac_model.proofs.TreeLemmas.{entry_at-behind}
 use Rattle.dep_graph.specs.Graphs.{edges_of, replaced}
 use Rattle.dep_graph.specs.Graphs as graph
-use Rattle.file_tree.proofs.ShapeLemmas.{same-or-not}
+use Rattle.tree_nodes.proofs.SetLemmas.{same-or-not}
 use Rattle.kept_facts.specs.AnswersKept.{list_at}
 use Rattle.layout_check.specs.Rising.{DoRise}
 use Rattle.link_kinds.specs.Kinds.{Lists, no_lists}

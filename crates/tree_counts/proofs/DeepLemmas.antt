@@ -26,7 +26,7 @@ use Rattle.hac_model.proofs.ValidLemmas.{directory-below}
 use Rattle.entry_counts.specs.Counting as counting
 use Rattle.entry_counts.specs.Counting.{plus, share_of}
 use Rattle.entry_counts.proofs.CountingLemmas.{counts-added, long-told}
-use Rattle.file_tree.proofs.OverLemmas.{long}
+use Rattle.tree_nodes.proofs.OverLemmas.{long}
 use Rattle.tree_counts.proofs.TallyLemmas.{all-documents, documents-each, documents-none, measured-append, mount-found}
 
 all-behind : (P : Entry → Type 0) (es fs : List Entry) → AllByRecursion P (es ++ fs) → AllByRecursion P fs

@@ -12,8 +12,8 @@ use Rattle.hac_model.specs.Tree.{child, is_document}
 use Rattle.hac_model.specs.Tree.Valid.{NamesDiffer}
 use Rattle.std.specs.List.{AllByRecursion}
 use Rattle.hac_model.specs.declared.states.Entry.{Entry}
-use Rattle.file_tree.specs.Documents.{unknown}
-use Rattle.file_tree.proofs.SearchLemmas.{before-differs}
+use Rattle.tree_nodes.specs.Documents.{unknown}
+use Rattle.sorted_lists.proofs.OrderLemmas.{before-differs}
 
 -- each is there once
 abbrev pub AreApart : List (List ℕ) → Type 0

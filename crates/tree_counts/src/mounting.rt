@@ -34,23 +34,9 @@ pub(crate) fn counts_synced(tree: &Tree, mount: Number, documents: &Seq<Name>) -
         tree.now.state) mount (fresh tree.now.state mount documents.now)) }
 {
     let names = documents.as_slice();
-    let fresh = count_fresh(tree, mount, names);
+    let fresh = tree.count_fresh(mount, names);
     let old = tree.children(mount).len() as u64;
     synced(small_counts(tree), old, names.len() as u64, fresh)
-}
-
-/// How many of the names a directory doesn't have.
-fn count_fresh(tree: &Tree, dir: Number, names: &[Name]) -> u64
-    ensures count { result ≡ length (fresh tree.now.state dir names.now) }
-    ensures few { result ≤ length names.now }
-{
-    let mut count = 0;
-    for name in names {
-        if tree.child(dir, name).is_none() {
-            count += 1;
-        }
-    }
-    count
 }
 
 /// How much the state would hold without a mount and its documents.

@@ -2,7 +2,7 @@ use Rattle.std.proofs.Common.{◌≡◌, ◌||◌, ℕ, drop}
 use Rattle.std.specs.Prelude.{is_some}
 use Rattle.hac_model.specs.Tree.{entry_at}
 use Rattle.file_tree.specs.Loading.{StandsAlone}
-use Rattle.file_tree.specs.Nodes.{has_node}
+use Rattle.tree_nodes.specs.Nodes.{has_node}
 use Rattle.file_tree.proofs.loading.prepare_all.Given as goal
 
 -- the nodes so far, and those of the entries that are left

@@ -5,16 +5,16 @@ use Rattle.hac_model.specs.Tree.Events.{added}
 use Rattle.hac_model.specs.declared.limits.TheConstants.{NUMBERS_LIMIT}
 use Rattle.hac_model.proofs.LimitLemmas.{limits-within, most-numbers}
 use Rattle.file_tree.specs.Answers.{is_dirty_at}
-use Rattle.file_tree.specs.Nodes.{body_from, entry_of, kids_of, name_of}
+use Rattle.file_tree.specs.Bodies.{body_from}
+use Rattle.tree_nodes.specs.Nodes.{entry_of, kids_of, name_of, set_at}
 use Rattle.file_tree.specs.Ready.{is_awaited, ready_for}
-use Rattle.file_tree.specs.Search.{rank_in}
+use Rattle.tree_nodes.specs.Search.{rank_in}
 use Rattle.file_tree.specs.Seen.{Seen}
 use Rattle.file_tree.specs.Shape.{HasNew, HasSpare}
 use Rattle.file_tree.specs.declared.ready.Ready.{Ready}
 use Rattle.file_tree.specs.declared.tree.Tree.TheInside.{Inside}
 use Rattle.file_tree.proofs.DirtyLemmas.{dirty-added}
 use Rattle.file_tree.proofs.ReadLemmas.{seen-layout}
-use Rattle.file_tree.proofs.ShapeLemmas.{told_at}
 use Rattle.file_tree.proofs.StateLemmas.{shaped-added, state-added}
 use Rattle.file_tree.proofs.NewLemmas.{spare-new}
 use Rattle.file_tree.proofs.TreeLemmas.{became, set-has}
@@ -39,16 +39,16 @@ module _ (c : goal.After-counts-1) where
   spare : HasNew c.args.dir c.self.inside.nodes c.self.inside.next
   spare = spare-new c.args.dir c.args.body c.self.inside.nodes c.self.inside.next (subst (λ (r : Ready). HasSpare r c.self.inside.nodes c.self.inside.next) ready c.self.invariant.shaped.spare)
 
-  entries : (n : ℕ) → entry_of c.put.new.nodes n ≡ told_at c.self.inside.next (Some (record { number = c.self.inside.next; parent = c.args.dir; name = c.args.name; body = body_from c.args.body })) (entry_of c.self.inside.nodes) n
+  entries : (n : ℕ) → entry_of c.put.new.nodes n ≡ set_at c.self.inside.next (Some (record { number = c.self.inside.next; parent = c.args.dir; name = c.args.name; body = body_from c.args.body })) (entry_of c.self.inside.nodes) n
   entries n = c.put.ensures.entries n
-      ∙ (λ i. told_at c.self.inside.next (Some (record { number = c.self.inside.next; parent = c.args.dir; name = c.args.name; body = c.new.ensures i })) (λ q. c.insert_named.ensures.entries q i) n)
+      ∙ (λ i. set_at c.self.inside.next (Some (record { number = c.self.inside.next; parent = c.args.dir; name = c.args.name; body = c.new_content.ensures i })) (λ q. c.insert_named.ensures.entries q i) n)
 
-  names : (n : ℕ) → name_of c.put.new.nodes n ≡ told_at c.self.inside.next c.args.name (name_of c.self.inside.nodes) n
+  names : (n : ℕ) → name_of c.put.new.nodes n ≡ set_at c.self.inside.next c.args.name (name_of c.self.inside.nodes) n
   names n = c.put.ensures.names n ∙ ap (λ (x : List ℕ). cond (nat_eq c.self.inside.next n) c.args.name x) (c.insert_named.ensures.names n)
 
-  kids : (d : ℕ) → kids_of c.put.new.nodes d ≡ told_at c.args.dir (insert (kids_of c.self.inside.nodes c.args.dir) (rank_in (name_of c.self.inside.nodes) c.args.name (kids_of c.self.inside.nodes c.args.dir)) c.self.inside.next) (kids_of c.self.inside.nodes) d
+  kids : (d : ℕ) → kids_of c.put.new.nodes d ≡ set_at c.args.dir (insert (kids_of c.self.inside.nodes c.args.dir) (rank_in (name_of c.self.inside.nodes) c.args.name (kids_of c.self.inside.nodes c.args.dir)) c.self.inside.next) (kids_of c.self.inside.nodes) d
   kids d = c.put.ensures.kids d ∙ c.insert_named.ensures.kids (c.self.invariant.shaped.lists.rises c.args.dir) d
-      ∙ ap (λ (x : List ℕ). told_at c.args.dir (insert (kids_of c.self.inside.nodes c.args.dir) (rank_in (name_of c.self.inside.nodes) x (kids_of c.self.inside.nodes c.args.dir)) c.self.inside.next) (kids_of c.self.inside.nodes) d) c.as_bytes.ensures
+      ∙ ap (λ (x : List ℕ). set_at c.args.dir (insert (kids_of c.self.inside.nodes c.args.dir) (rank_in (name_of c.self.inside.nodes) x (kids_of c.self.inside.nodes c.args.dir)) c.self.inside.next) (kids_of c.self.inside.nodes) d) c.as_bytes.ensures
 
   next : c.new-self-inside.result ≡ c.self.inside.next + 1
   next = c.new-self-inside.ensures ∙ ap (λ (k : ℕ). k + 1) c.get.ensures

@@ -1,7 +1,6 @@
 use Rattle.std.proofs.Common.{ℕ, List, sym, ap, subst, ◌∙◌}
-use Rattle.file_tree.specs.Nodes.{kids_of, name_of}
-use Rattle.file_tree.specs.Search.{first_named}
-use Rattle.file_tree.specs.Shape.{NamesRise}
+use Rattle.tree_nodes.specs.Nodes.{kids_of, name_of}
+use Rattle.tree_nodes.specs.Search.{first_named, NamesRise}
 use Rattle.file_tree.proofs.ChildLemmas.{child-seen}
 use Rattle.file_tree.proofs.tree.Tree.child.Goals as goal
 

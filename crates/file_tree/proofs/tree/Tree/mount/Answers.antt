@@ -10,19 +10,18 @@ use Rattle.hac_model.specs.declared.states.State.{State}
 use Rattle.hac_model.specs.declared.limits.TheConstants.{NUMBERS_LIMIT}
 use Rattle.hac_model.proofs.LimitLemmas.{limits-within, most-numbers}
 use Rattle.file_tree.specs.Answers.{is_dirty_at}
-use Rattle.file_tree.specs.Documents.{numbers_up, unknown, with_entries, with_names}
-use Rattle.file_tree.specs.Nodes.{entry_of, kids_of, name_of}
+use Rattle.tree_nodes.specs.Documents.{numbers_up, unknown, with_entries, with_names}
+use Rattle.tree_nodes.specs.Nodes.{entry_of, kids_of, name_of, set_at}
 use Rattle.file_tree.specs.Ready.{is_awaited}
-use Rattle.file_tree.specs.Search.{first_named, rank_in}
+use Rattle.tree_nodes.specs.Search.{first_named, rank_in, NamesRise}
 use Rattle.file_tree.specs.Seen.{Seen}
-use Rattle.file_tree.specs.Shape.{HasDocuments, HasNew, HasNodes, HasSpare, NamesRise}
+use Rattle.file_tree.specs.Shape.{HasDocuments, HasNew, HasNodes, HasSpare}
 use Rattle.file_tree.specs.declared.ready.Ready.{Ready}
 use Rattle.file_tree.specs.declared.ready.Ready.TheVariants.{Mount, Nothing}
 use Rattle.file_tree.specs.declared.tree.Tree.TheInside.{Inside}
 use Rattle.file_tree.proofs.MountLemmas.{IsMounted, at, clean-mounted, dirty-same, shaped-mounted, state-mounted}
 use Rattle.file_tree.proofs.NumberLemmas.{unknown-none}
-use Rattle.file_tree.proofs.OverLemmas.{named-same, over-same}
-use Rattle.file_tree.proofs.ShapeLemmas.{told_at}
+use Rattle.tree_nodes.proofs.OverLemmas.{named-same, over-same}
 use Rattle.file_tree.proofs.TreeLemmas.{became, set-has}
 use Rattle.file_tree.proofs.tree.Tree.mount.Goals as goal
 
@@ -84,22 +83,22 @@ module _ (c : goal.After-counts-1) where
     next = c.put_unknown-self-inside.ensures.next ∙ (λ i. first i + length (all i));
     version = refl;
     entries = λ n.
-        c.put_children.ensures.entries n ∙ c.put_unknown-self-inside.ensures.entries n
+        c.put_children.ensures.list.entries n ∙ c.put_unknown-self-inside.ensures.put.entries n
         ∙ (λ i. with_entries (documents_from (first i) t.next (all i)) (entry_of c.put.new.nodes) n)
         ∙ over-same (documents_from (t.next + 1) t.next c.args.documents) (at t c.args.self.now c.self.view_is c.self.invariant.shaped u c.args.dir c.args.name c.args.space c.args.documents) (entry_of c.put.new.nodes)
         (λ q. c.put.ensures.entries q ∙ ap (λ (o : Option Entry). cond (nat_eq t.next q) (Some (record { number = t.next; parent = c.args.dir; name = c.args.name; body = body.Mount c.args.space [] })) o) (c.insert_named.ensures.entries q)) n;
     named = λ n.
-        c.put_children.ensures.names n ∙ c.put_unknown-self-inside.ensures.names n
+        c.put_children.ensures.list.names n ∙ c.put_unknown-self-inside.ensures.put.names n
         ∙ (λ i. with_names (documents_from (first i) t.next (all i)) (name_of c.put.new.nodes) n)
-        ∙ named-same (documents_from (t.next + 1) t.next c.args.documents) (told_at t.next c.args.name (name_of t.nodes)) (name_of c.put.new.nodes)
+        ∙ named-same (documents_from (t.next + 1) t.next c.args.documents) (set_at t.next c.args.name (name_of t.nodes)) (name_of c.put.new.nodes)
         (λ q. c.put.ensures.names q ∙ ap (λ (x : List ℕ). cond (nat_eq t.next q) c.args.name x) (c.insert_named.ensures.names q)) n;
     lists = λ d.
-        c.put_children.ensures.kids d
+        c.put_children.ensures.list.kids d
         ∙ ap (λ (ns : List ℕ). cond (nat_eq t.next d) ns (kids_of c.put_unknown-self-inside.new.nodes d)) (list-mount t c.args.dir (length c.args.documents) ready c.self.invariant.documents_are)
         ∙ ap (λ (ns : List ℕ). cond (nat_eq t.next d) (numbers_up (t.next + 1) (length c.args.documents)) ns) (
-        c.put_unknown-self-inside.ensures.kids d ∙ c.put.ensures.kids d ∙ c.insert_named.ensures.kids (c.self.invariant.shaped.lists.rises c.args.dir) d
-        ∙ ap (λ (x : List ℕ). told_at c.args.dir (insert (kids_of t.nodes c.args.dir) (rank_in (name_of t.nodes) x (kids_of t.nodes c.args.dir)) t.next) (kids_of t.nodes) d) c.as_bytes.ensures);
-    numbers = λ n. c.put_children.ensures.numbers n ∙ c.put_unknown-self-inside.ensures.numbers n ∙ c.put.ensures.numbers n ∙ c.insert_named.ensures.numbers n;
+        c.put_unknown-self-inside.ensures.put.kids d ∙ c.put.ensures.kids d ∙ c.insert_named.ensures.kids (c.self.invariant.shaped.lists.rises c.args.dir) d
+        ∙ ap (λ (x : List ℕ). set_at c.args.dir (insert (kids_of t.nodes c.args.dir) (rank_in (name_of t.nodes) x (kids_of t.nodes c.args.dir)) t.next) (kids_of t.nodes) d) c.as_bytes.ensures);
+    numbers = λ n. c.put_children.ensures.list.numbers n ∙ c.put_unknown-self-inside.ensures.put.numbers n ∙ c.put.ensures.numbers n ∙ c.insert_named.ensures.numbers n;
   }
 
 pub returns : goal.returns

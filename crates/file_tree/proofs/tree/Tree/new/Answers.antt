@@ -5,7 +5,7 @@ use Rattle.std.specs.Ordering.{nat_cmp}
 use Rattle.std.proofs.lemmas.Bool.{ne_eqb}
 use Rattle.hac_model.specs.Tree.{root_alone}
 use Rattle.hac_model.specs.declared.states.State.{State}
-use Rattle.file_tree.specs.Nodes.{entry_of}
+use Rattle.tree_nodes.specs.Nodes.{entry_of}
 use Rattle.file_tree.specs.declared.ready.Ready.TheVariants.{Nothing}
 use Rattle.file_tree.proofs.NewLemmas.{empty-entry, empty-kids, empty-node, shaped-new, state-new}
 use Rattle.file_tree.proofs.TreeLemmas.{became}

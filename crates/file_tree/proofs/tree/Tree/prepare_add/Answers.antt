@@ -14,20 +14,20 @@ invariant_of-self c =
 
 pub invariant_of-self-in_err-reserve_child : goal.invariant_of-self-in_err-reserve_child
 invariant_of-self-in_err-reserve_child c =
-    tree-prepared c.self.inside c.self.invariant _ refl refl (λ n. c.reserve_child.ensures.entries n ∙ c.prepare.ensures.entries n) (λ n other. c.reserve_child.ensures.names n ∙ c.prepare.ensures.names n other)
-    (λ d. c.reserve_child.ensures.kids d ∙ c.prepare.ensures.kids d) (λ n other. c.reserve_child.ensures.numbers n ∙ c.prepare.ensures.others n other)
+    tree-prepared c.self.inside c.self.invariant _ refl refl (λ n. c.reserve_child.ensures.same.entries n ∙ c.prepare.ensures.entries n) (λ n other. c.reserve_child.ensures.same.names n ∙ c.prepare.ensures.names n other)
+    (λ d. c.reserve_child.ensures.same.kids d ∙ c.prepare.ensures.kids d) (λ n other. c.reserve_child.ensures.same.numbers n ∙ c.prepare.ensures.others n other)
     (spare-nothing c.self.inside c.args.self.now.state (c.self.view_is ∙ c.forget.ensures) c.reserve_child.new.nodes c.self.inside.next) refl c.self.invariant.dirty_are c.self.invariant.documents_are
 
 pub invariant_of-self-in_err-add_number : goal.invariant_of-self-in_err-add_number
 invariant_of-self-in_err-add_number c =
-    tree-prepared c.self.inside c.self.invariant _ refl refl (λ n. c.reserve_child.ensures.entries n ∙ c.prepare.ensures.entries n) (λ n other. c.reserve_child.ensures.names n ∙ c.prepare.ensures.names n other)
-    (λ d. c.reserve_child.ensures.kids d ∙ c.prepare.ensures.kids d) (λ n other. c.reserve_child.ensures.numbers n ∙ c.prepare.ensures.others n other)
+    tree-prepared c.self.inside c.self.invariant _ refl refl (λ n. c.reserve_child.ensures.same.entries n ∙ c.prepare.ensures.entries n) (λ n other. c.reserve_child.ensures.same.names n ∙ c.prepare.ensures.names n other)
+    (λ d. c.reserve_child.ensures.same.kids d ∙ c.prepare.ensures.kids d) (λ n other. c.reserve_child.ensures.same.numbers n ∙ c.prepare.ensures.others n other)
     (spare-nothing c.self.inside c.args.self.now.state (c.self.view_is ∙ c.forget.ensures) c.reserve_child.new.nodes c.self.inside.next) refl (λ n. c.in_err-add_number.ensures.err n ∙ c.self.invariant.dirty_are n) c.self.invariant.documents_are
 
 pub invariant_of-self-2 : goal.invariant_of-self-2
 invariant_of-self-2 c =
     let view = c.self.view_is ∙ c.forget.ensures in
-    tree-prepared c.self.inside c.self.invariant _ refl refl (λ n. c.reserve_child.ensures.entries n ∙ c.prepare.ensures.entries n) (λ n other. c.reserve_child.ensures.names n ∙ c.prepare.ensures.names n other)
-    (λ d. c.reserve_child.ensures.kids d ∙ c.prepare.ensures.kids d) (λ n other. c.reserve_child.ensures.numbers n ∙ c.prepare.ensures.others n other)
-    (place-reserved c.self.inside c.args.self.now.state view c.reserve_child.new.nodes c.args.dir c.self.invariant c.requires c.in_ok-reserve_child.ensures.place, c.reserve_child.ensures.numbers c.self.inside.next ∙ c.in_ok-prepare.ensures.there) refl
+    tree-prepared c.self.inside c.self.invariant _ refl refl (λ n. c.reserve_child.ensures.same.entries n ∙ c.prepare.ensures.entries n) (λ n other. c.reserve_child.ensures.same.names n ∙ c.prepare.ensures.names n other)
+    (λ d. c.reserve_child.ensures.same.kids d ∙ c.prepare.ensures.kids d) (λ n other. c.reserve_child.ensures.same.numbers n ∙ c.prepare.ensures.others n other)
+    (place-reserved c.self.inside c.args.self.now.state view c.reserve_child.new.nodes c.args.dir c.self.invariant c.requires c.in_ok-reserve_child.ensures.place, c.reserve_child.ensures.same.numbers c.self.inside.next ∙ c.in_ok-prepare.ensures.there) refl
     (λ n. c.in_ok-add_number.ensures.ok n ∙ (λ i. set-clean c.self.inside c.self.invariant (ready-nothing c.self.inside c.args.self.now.state view) n i || is_number (c.awaited.ensures i) n)) tt

@@ -20,21 +20,21 @@ invariant_of-self c =
 
 pub invariant_of-self-in_err-reserve_child : goal.invariant_of-self-in_err-reserve_child
 invariant_of-self-in_err-reserve_child c =
-    tree-prepared c.self.inside c.self.invariant _ refl refl (λ n. c.reserve_child.ensures.entries n ∙ c.prepare.ensures.entries n) (λ n other. c.reserve_child.ensures.names n ∙ c.prepare.ensures.names n other)
-    (λ d. c.reserve_child.ensures.kids d ∙ c.prepare.ensures.kids d) (λ n other. c.reserve_child.ensures.numbers n ∙ c.prepare.ensures.others n other)
+    tree-prepared c.self.inside c.self.invariant _ refl refl (λ n. c.reserve_child.ensures.same.entries n ∙ c.prepare.ensures.entries n) (λ n other. c.reserve_child.ensures.same.names n ∙ c.prepare.ensures.names n other)
+    (λ d. c.reserve_child.ensures.same.kids d ∙ c.prepare.ensures.kids d) (λ n other. c.reserve_child.ensures.same.numbers n ∙ c.prepare.ensures.others n other)
     (spare-nothing c.self.inside c.args.self.now.state (c.self.view_is ∙ c.forget.ensures) c.reserve_child.new.nodes c.self.inside.next) refl c.self.invariant.dirty_are c.self.invariant.documents_are
 
 pub invariant_of-self-2 : goal.invariant_of-self-2
 invariant_of-self-2 c =
     let view = c.self.view_is ∙ c.forget.ensures in
-    tree-prepared c.self.inside c.self.invariant _ refl refl (λ n. c.reserve_child.ensures.entries n ∙ c.prepare.ensures.entries n) (λ n other. c.reserve_child.ensures.names n ∙ c.prepare.ensures.names n other)
-    (λ d. c.reserve_child.ensures.kids d ∙ c.prepare.ensures.kids d) (λ n other. c.reserve_child.ensures.numbers n ∙ c.prepare.ensures.others n other)
-    (place-reserved c.self.inside c.args.self.now.state view c.reserve_child.new.nodes c.args.dir c.self.invariant c.requires.dir c.in_ok-reserve_child.ensures.place, c.reserve_child.ensures.numbers c.self.inside.next ∙ c.in_ok-prepare.ensures.there) refl
+    tree-prepared c.self.inside c.self.invariant _ refl refl (λ n. c.reserve_child.ensures.same.entries n ∙ c.prepare.ensures.entries n) (λ n other. c.reserve_child.ensures.same.names n ∙ c.prepare.ensures.names n other)
+    (λ d. c.reserve_child.ensures.same.kids d ∙ c.prepare.ensures.kids d) (λ n other. c.reserve_child.ensures.same.numbers n ∙ c.prepare.ensures.others n other)
+    (place-reserved c.self.inside c.args.self.now.state view c.reserve_child.new.nodes c.args.dir c.self.invariant c.requires.dir c.in_ok-reserve_child.ensures.place, c.reserve_child.ensures.same.numbers c.self.inside.next ∙ c.in_ok-prepare.ensures.there) refl
     (λ n. c.self.invariant.dirty_are n ∙ ap (λ r. is_dirty_at (state_of c.self.inside).entries n || is_awaited c.self.inside.next r n) (ready-nothing c.self.inside c.args.self.now.state view)) tt
 
 pub returns-clause-ok : goal.returns-clause-ok
 returns-clause-ok c =
     let u : Inside = record c.self.inside { nodes = c.reserve_child.new.nodes; ready = Link c.args.dir c.in_ok-word.word } in
-    let state = state-same c.self.inside (record { state = c.args.self.now.state; ready = Nothing }) (c.self.view_is ∙ c.forget.ensures) c.self.invariant.shaped u refl refl (λ n. c.reserve_child.ensures.entries n ∙ c.prepare.ensures.entries n) in
+    let state = state-same c.self.inside (record { state = c.args.self.now.state; ready = Nothing }) (c.self.view_is ∙ c.forget.ensures) c.self.invariant.shaped u refl refl (λ n. c.reserve_child.ensures.same.entries n ∙ c.prepare.ensures.entries n) in
     let word : c.in_ok-word.word ≡ untested_word c.args.target.now = c.in_ok-word.ensures in
     λ i. record { state = state i; ready = Link c.args.dir (word i) }

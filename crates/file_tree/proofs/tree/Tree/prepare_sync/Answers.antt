@@ -10,9 +10,10 @@ use Rattle.hac_model.specs.Tree.Names.{is_name}
 use Rattle.hac_model.specs.Tree.{is_mount_at}
 use Rattle.hac_model.specs.declared.limits.TheConstants.{DOCS_LIMIT, NUMBERS_LIMIT}
 use Rattle.file_tree.specs.Answers.{is_dirty_at}
-use Rattle.file_tree.specs.Documents.{numbers_for, numbers_from, unknown}
-use Rattle.file_tree.specs.Nodes.{name_of}
-use Rattle.file_tree.specs.Search.{first_named}
+use Rattle.file_tree.specs.Documents.{numbers_for}
+use Rattle.tree_nodes.specs.Documents.{numbers_from, unknown}
+use Rattle.tree_nodes.specs.Nodes.{name_of}
+use Rattle.tree_nodes.specs.Search.{first_named}
 use Rattle.file_tree.specs.Seen.{Seen}
 use Rattle.file_tree.specs.Shape.{seen_of, state_of}
 use Rattle.file_tree.specs.declared.ready.Ready.TheVariants.{Nothing, Sync}

@@ -10,22 +10,22 @@ use Rattle.hac_model.specs.declared.states.Entry.{Entry}
 use Rattle.hac_model.specs.declared.limits.TheConstants.{NUMBERS_LIMIT}
 use Rattle.hac_model.proofs.LimitLemmas.{limits-within, most-numbers}
 use Rattle.file_tree.specs.Answers.{is_dirty_at}
-use Rattle.file_tree.specs.Documents.{is_dropped, numbers_from, unknown, with_entries, with_names}
-use Rattle.tiered_list.specs.Listed.{Listed}
-use Rattle.file_tree.specs.Nodes.{entry_of, has_node, kids_of, name_of}
+use Rattle.tree_nodes.specs.Documents.{is_dropped, numbers_from, unknown, with_entries, with_names}
+use Rattle.tree_nodes.specs.Nodes.{entry_of, has_node, kids_of, name_of}
 use Rattle.file_tree.specs.Ready.{is_awaited, numbers_in}
-use Rattle.file_tree.specs.Search.{first_named}
+use Rattle.tree_nodes.specs.Search.{first_named, NamesRise}
 use Rattle.file_tree.specs.Seen.{Seen}
-use Rattle.file_tree.specs.Shape.{HasSpare, NamesRise, state_of}
+use Rattle.file_tree.specs.Shape.{HasSpare, state_of}
 use Rattle.file_tree.specs.declared.ready.Ready.{Ready}
 use Rattle.file_tree.specs.declared.tree.Tree.TheInside.{Inside}
 use Rattle.file_tree.proofs.ChildLemmas.{entry-node}
 use Rattle.file_tree.proofs.DroppedLemmas.{dropped-told, entries-put, finds, low-name, member-low, mount-inside, names-put, ready-inside, rise-redone, spare-inside}
-use Rattle.file_tree.proofs.ListLemmas.{rises-same}
+use Rattle.tree_nodes.proofs.ListLemmas.{rises-same}
 use Rattle.file_tree.proofs.MountLemmas.{dirty-same}
 use Rattle.file_tree.proofs.NumberLemmas.{number-new}
 use Rattle.file_tree.proofs.SyncLemmas.{IsRedone, clean-redone, documents, find, leaves, mount-entry, mount-outside, shaped-redone, state-redone}
 use Rattle.file_tree.proofs.TreeLemmas.{became, set-has}
+use Rattle.tiered_list.specs.Listed.{Listed}
 use Rattle.file_tree.proofs.tree.Tree.sync.Goals as goal
 
 pub put_children-requires : goal.put_children-requires
@@ -37,7 +37,7 @@ put_children-requires c =
 pub put_unknown-self-inside-requires-clause-rise : goal.put_unknown-self-inside-requires-clause-rise
 put_unknown-self-inside-requires-clause-rise c =
     let known : c.items.result ≡ kids_of c.self.inside.nodes c.args.mount = c.items.ensures ∙ c.put_children.ensures.given in
-    rises-same (name_of c.self.inside.nodes) (name_of c.put_children.new.nodes) c.items.result (λ n among. c.put_children.ensures.names n)
+    rises-same (name_of c.self.inside.nodes) (name_of c.put_children.new.nodes) c.items.result (λ n among. c.put_children.ensures.list.names n)
     (subst (λ (ns : List ℕ). NamesRise (name_of c.self.inside.nodes) ns) (sym known) (c.self.invariant.shaped.lists.rises c.args.mount))
 
 pub put_unknown-self-inside-requires-clause-low : goal.put_unknown-self-inside-requires-clause-low
@@ -50,9 +50,9 @@ put_unknown-self-inside-requires-clause-there c = λ q high low.
     let t = c.self.inside in
     let h = c.self.invariant.shaped in
     let is = mount-inside t c.args.self.now c.self.view_is c.args.mount c.requires.mount in
-    let same = finds t c.args.self.now c.self.view_is c.args.mount h is (name_of c.put_children.new.nodes) c.items.result c.put_children.ensures.names (c.items.ensures ∙ c.put_children.ensures.given) in
+    let same = finds t c.args.self.now c.self.view_is c.args.mount h is (name_of c.put_children.new.nodes) c.items.result c.put_children.ensures.list.names (c.items.ensures ∙ c.put_children.ensures.given) in
     let inside : q < t.next + length (unknown (find t h c.args.mount is) c.args.documents) = subst (λ (f : List ℕ → Option ℕ). q < t.next + length (unknown f c.args.documents)) same low in
-    c.put_children.ensures.numbers q
+    c.put_children.ensures.list.numbers q
     ∙ spare-inside t c.args.self.now c.self.view_is c.args.mount h is c.args.documents c.requires.ready q (number-new (find t h c.args.mount is) c.args.documents t.next q high inside)
 
 pub put_unknown-self-inside-requires-clause-few : goal.put_unknown-self-inside-requires-clause-few
@@ -61,7 +61,7 @@ put_unknown-self-inside-requires-clause-few c =
     let s = c.args.self.now.state in
     let h = c.self.invariant.shaped in
     let is = mount-inside t c.args.self.now c.self.view_is c.args.mount c.requires.mount in
-    let same = finds t c.args.self.now c.self.view_is c.args.mount h is (name_of c.put_children.new.nodes) c.items.result c.put_children.ensures.names (c.items.ensures ∙ c.put_children.ensures.given) in
+    let same = finds t c.args.self.now c.self.view_is c.args.mount h is (name_of c.put_children.new.nodes) c.items.result c.put_children.ensures.list.names (c.items.ensures ∙ c.put_children.ensures.given) in
     let after = with_documents (without_such (is_gone c.args.mount c.args.documents) s) c.args.mount (fresh s c.args.mount c.args.documents) in
     let within = limits-within after c.requires.may.layout.limits in
     let low : nat_lt NUMBERS_LIMIT (s.next + length (fresh s c.args.mount c.args.documents)) ≡ false = most-numbers after within in
@@ -76,8 +76,8 @@ take_dropped-requires-clause-rise c =
     let h = c.self.invariant.shaped in
     let g = name_of c.put_unknown-self-inside.new.nodes in
     let is = mount-inside t c.args.self.now c.self.view_is c.args.mount c.requires.mount in
-    let same = finds t c.args.self.now c.self.view_is c.args.mount h is (name_of c.put_children.new.nodes) c.items.result c.put_children.ensures.names (c.items.ensures ∙ c.put_children.ensures.given) in
-    let named = names-put t h c.args.mount is c.args.documents (first_named (name_of c.put_children.new.nodes) c.items.result) same g (name_of c.put_children.new.nodes) c.put_children.ensures.names c.put_unknown-self-inside.ensures.names in
+    let same = finds t c.args.self.now c.self.view_is c.args.mount h is (name_of c.put_children.new.nodes) c.items.result c.put_children.ensures.list.names (c.items.ensures ∙ c.put_children.ensures.given) in
+    let named = names-put t h c.args.mount is c.args.documents (first_named (name_of c.put_children.new.nodes) c.items.result) same g (name_of c.put_children.new.nodes) c.put_children.ensures.list.names c.put_unknown-self-inside.ensures.put.names in
     let known : c.items-2.result ≡ kids_of t.nodes c.args.mount = c.items-2.ensures ∙ c.put_children.ensures.given in
     subst (λ (ns : List ℕ). NamesRise g ns) (sym known)
     (rises-same (name_of t.nodes) g (kids_of t.nodes c.args.mount) (λ n among. low-name t h c.args.mount is c.args.documents g named n (member-low t h c.args.mount is n among)) (h.lists.rises c.args.mount))
@@ -88,8 +88,8 @@ take_dropped-requires-clause-kept_rise c =
     let h = c.self.invariant.shaped in
     let g = name_of c.put_unknown-self-inside.new.nodes in
     let is = mount-inside t c.args.self.now c.self.view_is c.args.mount c.requires.mount in
-    let same = finds t c.args.self.now c.self.view_is c.args.mount h is (name_of c.put_children.new.nodes) c.items.result c.put_children.ensures.names (c.items.ensures ∙ c.put_children.ensures.given) in
-    let named = names-put t h c.args.mount is c.args.documents (first_named (name_of c.put_children.new.nodes) c.items.result) same g (name_of c.put_children.new.nodes) c.put_children.ensures.names c.put_unknown-self-inside.ensures.names in
+    let same = finds t c.args.self.now c.self.view_is c.args.mount h is (name_of c.put_children.new.nodes) c.items.result c.put_children.ensures.list.names (c.items.ensures ∙ c.put_children.ensures.given) in
+    let named = names-put t h c.args.mount is c.args.documents (first_named (name_of c.put_children.new.nodes) c.items.result) same g (name_of c.put_children.new.nodes) c.put_children.ensures.list.names c.put_unknown-self-inside.ensures.put.names in
     let numbers : c.items-3.result ≡ numbers_from (find t h c.args.mount is) t.next c.args.documents =
     c.items-3.ensures ∙ ap (λ (x : Listed). x.items) c.from_vec-numbers.ensures ∙ c.numbers_in.ensures ∙ ap numbers_in (c.replace-ready.ensures.value ∙ ready-inside t c.args.self.now c.self.view_is c.args.mount h is c.args.documents c.requires.ready) in
     subst (λ (ns : List ℕ). NamesRise g ns) (sym numbers) (rise-redone t h c.args.mount is c.args.documents g named c.requires.rise)
@@ -106,7 +106,7 @@ put_children-requires-2 c =
     ∙ ap (λ (b : Bool). b && is_none (first_named g c.items-3.result (g c.args.mount))) (mount-outside t h c.args.mount is) in
     c.take_dropped.ensures.numbers c.args.mount
     ∙ ap (λ (b : Bool). cond b false (has_node c.put_unknown-self-inside.new.nodes c.args.mount)) out
-    ∙ c.put_unknown-self-inside.ensures.numbers c.args.mount ∙ c.put_children.ensures.numbers c.args.mount
+    ∙ c.put_unknown-self-inside.ensures.put.numbers c.args.mount ∙ c.put_children.ensures.list.numbers c.args.mount
     ∙ entry-node t.nodes c.args.mount entry.0 entry.1
 
 module _ (c : goal.After-drop-numbers-inside-2) where
@@ -120,16 +120,16 @@ module _ (c : goal.After-drop-numbers-inside-2) where
   is = mount-inside c.self.inside c.args.self.now c.self.view_is c.args.mount c.requires.mount
 
   same : first_named (name_of c.put_children.new.nodes) c.items.result ≡ find c.self.inside c.self.invariant.shaped c.args.mount is
-  same = finds c.self.inside c.args.self.now c.self.view_is c.args.mount c.self.invariant.shaped is (name_of c.put_children.new.nodes) c.items.result c.put_children.ensures.names (c.items.ensures ∙ c.put_children.ensures.given)
+  same = finds c.self.inside c.args.self.now c.self.view_is c.args.mount c.self.invariant.shaped is (name_of c.put_children.new.nodes) c.items.result c.put_children.ensures.list.names (c.items.ensures ∙ c.put_children.ensures.given)
 
   numbers : c.from_vec-numbers.result.items ≡ numbers_from (find c.self.inside c.self.invariant.shaped c.args.mount is) c.self.inside.next c.args.documents
   numbers = ap (λ (x : Listed). x.items) c.from_vec-numbers.ensures ∙ c.numbers_in.ensures ∙ ap numbers_in (c.replace-ready.ensures.value ∙ ready-inside c.self.inside c.args.self.now c.self.view_is c.args.mount c.self.invariant.shaped is c.args.documents c.requires.ready)
 
   named : (q : ℕ) → name_of c.put_unknown-self-inside.new.nodes q ≡ with_names (documents c.self.inside c.self.invariant.shaped c.args.mount is c.args.documents) (name_of c.self.inside.nodes) q
-  named = names-put c.self.inside c.self.invariant.shaped c.args.mount is c.args.documents (first_named (name_of c.put_children.new.nodes) c.items.result) same (name_of c.put_unknown-self-inside.new.nodes) (name_of c.put_children.new.nodes) c.put_children.ensures.names c.put_unknown-self-inside.ensures.names
+  named = names-put c.self.inside c.self.invariant.shaped c.args.mount is c.args.documents (first_named (name_of c.put_children.new.nodes) c.items.result) same (name_of c.put_unknown-self-inside.new.nodes) (name_of c.put_children.new.nodes) c.put_children.ensures.list.names c.put_unknown-self-inside.ensures.put.names
 
   put : (q : ℕ) → entry_of c.put_unknown-self-inside.new.nodes q ≡ with_entries (documents c.self.inside c.self.invariant.shaped c.args.mount is c.args.documents) (entry_of c.self.inside.nodes) q
-  put = entries-put c.self.inside c.self.invariant.shaped c.args.mount is c.args.documents (first_named (name_of c.put_children.new.nodes) c.items.result) same (entry_of c.put_unknown-self-inside.new.nodes) (entry_of c.put_children.new.nodes) c.put_children.ensures.entries c.put_unknown-self-inside.ensures.entries
+  put = entries-put c.self.inside c.self.invariant.shaped c.args.mount is c.args.documents (first_named (name_of c.put_children.new.nodes) c.items.result) same (entry_of c.put_unknown-self-inside.new.nodes) (entry_of c.put_children.new.nodes) c.put_children.ensures.list.entries c.put_unknown-self-inside.ensures.put.entries
 
   abbrev left : ℕ → Bool
   left = leaves c.self.inside c.self.invariant.shaped c.args.mount is c.args.documents
@@ -145,23 +145,23 @@ module _ (c : goal.After-drop-numbers-inside-2) where
     next = c.put_unknown-self-inside.ensures.next ∙ (λ i. c.self.inside.next + length (unknown (same i) c.args.documents));
     version = refl;
     entries = λ q.
-        c.put_children-2.ensures.entries q ∙ c.take_dropped.ensures.entries q
+        c.put_children-2.ensures.list.entries q ∙ c.take_dropped.ensures.entries q
         ∙ ap (λ (b : Bool). cond {A = Option Entry} b None (entry_of c.put_unknown-self-inside.new.nodes q)) (dropped q)
         ∙ ap (λ (o : Option Entry). cond (left q) None o) (put q);
-    named = λ q stays. c.put_children-2.ensures.names q ∙ c.take_dropped.ensures.names q (dropped q ∙ stays) ∙ named q;
+    named = λ q stays. c.put_children-2.ensures.list.names q ∙ c.take_dropped.ensures.names q (dropped q ∙ stays) ∙ named q;
     lists = λ d.
-        c.put_children-2.ensures.kids d
+        c.put_children-2.ensures.list.kids d
         ∙ ap (λ (ns : List ℕ). cond (nat_eq c.args.mount d) ns (kids_of c.take_dropped.new.nodes d)) numbers
         ∙ ap (λ (ns : List ℕ). cond (nat_eq c.args.mount d) (numbers_from (find c.self.inside c.self.invariant.shaped c.args.mount is) c.self.inside.next c.args.documents) ns) (
         c.take_dropped.ensures.kids d
         ∙ ap (λ (b : Bool). cond {A = List ℕ} b [] (kids_of c.put_unknown-self-inside.new.nodes d)) (dropped d)
         ∙ ap (λ (ns : List ℕ). cond (left d) [] ns) (
-        c.put_unknown-self-inside.ensures.kids d ∙ c.put_children.ensures.kids d
+        c.put_unknown-self-inside.ensures.put.kids d ∙ c.put_children.ensures.list.kids d
         ∙ ap (λ (ns : List ℕ). cond (nat_eq c.args.mount d) ns (kids_of c.self.inside.nodes d)) (ap (λ (x : Listed). x.items) c.new-known.ensures)));
     numbers = λ q.
-        c.put_children-2.ensures.numbers q ∙ c.take_dropped.ensures.numbers q
+        c.put_children-2.ensures.list.numbers q ∙ c.take_dropped.ensures.numbers q
         ∙ ap (λ (b : Bool). cond b false (has_node c.put_unknown-self-inside.new.nodes q)) (dropped q)
-        ∙ ap (λ (b : Bool). cond (left q) false b) (c.put_unknown-self-inside.ensures.numbers q ∙ c.put_children.ensures.numbers q);
+        ∙ ap (λ (b : Bool). cond (left q) false b) (c.put_unknown-self-inside.ensures.put.numbers q ∙ c.put_children.ensures.list.numbers q);
   }
 
   state : state_of u ≡ with_documents (without_such (is_gone c.args.mount c.args.documents) c.args.self.now.state) c.args.mount (fresh c.args.self.now.state c.args.mount c.args.documents)

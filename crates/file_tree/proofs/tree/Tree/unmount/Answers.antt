@@ -4,22 +4,23 @@ use Rattle.hac_model.specs.Tree.Mounting.{is_of_mount, without_such}
 use Rattle.hac_model.specs.Tree.{is_mount_at}
 use Rattle.hac_model.specs.Tree.Valid.{IsLayout}
 use Rattle.hac_model.specs.declared.states.Entry.{Entry}
-use Rattle.file_tree.specs.Documents.{is_dropped}
-use Rattle.tiered_list.specs.Listed.{Listed}
-use Rattle.file_tree.specs.Nodes.{entry_of, has_node, kids_of, name_of}
+use Rattle.tree_nodes.specs.Documents.{is_dropped}
+use Rattle.tree_nodes.specs.Nodes.{entry_of, has_node, kids_of, name_of}
 use Rattle.file_tree.specs.Seen.{Seen}
-use Rattle.file_tree.specs.Shape.{HasSpare, NamesRise, seen_of, state_of}
+use Rattle.file_tree.specs.Shape.{HasSpare, seen_of, state_of}
+use Rattle.tree_nodes.specs.Search.{NamesRise}
 use Rattle.file_tree.specs.declared.ready.Ready.{Ready}
 use Rattle.file_tree.specs.declared.ready.Ready.TheVariants.{Nothing}
 use Rattle.file_tree.specs.declared.tree.Tree.TheInside.{Inside}
 use Rattle.file_tree.proofs.UnmountLemmas.{IsUnmounted, apart, clean-unmounted, inside, shaped-unmounted, state-unmounted}
 use Rattle.file_tree.proofs.StateLemmas.{entry-listed}
 use Rattle.file_tree.proofs.DroppedLemmas.{mount-inside}
-use Rattle.file_tree.proofs.ListLemmas.{rises-same}
+use Rattle.tree_nodes.proofs.ListLemmas.{rises-same}
 use Rattle.file_tree.proofs.MountLemmas.{dirty-same}
-use Rattle.file_tree.proofs.ShapeLemmas.{told-there}
+use Rattle.tree_nodes.proofs.SetLemmas.{set-there}
 use Rattle.file_tree.proofs.SyncLemmas.{mount-entry}
 use Rattle.file_tree.proofs.TreeLemmas.{became, set-dirty}
+use Rattle.tiered_list.specs.Listed.{Listed}
 use Rattle.file_tree.proofs.tree.Tree.unmount.Goals as goal
 
 pub parent_at-parent-requires : goal.parent_at-parent-requires
@@ -41,10 +42,10 @@ take_dropped-requires-clause-rise c =
     let is = mount-inside t (record { state = c.args.self.now.state; ready = Nothing }) (c.self.view_is ∙ c.forget.ensures) c.args.mount c.requires.mount in
     let outside = apart t h c.args.mount is c.parent_at-parent.result c.parent_at-parent.ensures in
     let known : c.items.result ≡ kids_of t.nodes c.args.mount =
-    c.items.ensures ∙ c.put_children.ensures.given ∙ c.drop_child.ensures.kids c.args.mount
-    ∙ told-there c.parent_at-parent.result (remove (kids_of t.nodes c.parent_at-parent.result) c.place_at-place.result) (kids_of t.nodes) c.args.mount (λ same. outside (sym same)) in
+    c.items.ensures ∙ c.put_children.ensures.given ∙ c.drop_child.ensures.list.kids c.args.mount
+    ∙ set-there c.parent_at-parent.result (remove (kids_of t.nodes c.parent_at-parent.result) c.place_at-place.result) (kids_of t.nodes) c.args.mount (λ same. outside (sym same)) in
     subst (λ (ns : List ℕ). NamesRise (name_of c.put_children.new.nodes) ns) (sym known)
-    (rises-same (name_of t.nodes) (name_of c.put_children.new.nodes) (kids_of t.nodes c.args.mount) (λ n among. c.put_children.ensures.names n ∙ c.drop_child.ensures.names n) (h.lists.rises c.args.mount))
+    (rises-same (name_of t.nodes) (name_of c.put_children.new.nodes) (kids_of t.nodes c.args.mount) (λ n among. c.put_children.ensures.list.names n ∙ c.drop_child.ensures.list.names n) (h.lists.rises c.args.mount))
 
 pub take_dropped-requires-clause-kept_rise : goal.take_dropped-requires-clause-kept_rise
 take_dropped-requires-clause-kept_rise c = subst (λ (ns : List ℕ). NamesRise (name_of c.put_children.new.nodes) ns) (sym c.from_slice.ensures) tt
@@ -64,8 +65,8 @@ module _ (c : goal.After-drop-documents-inside-2) where
 
   known : c.items.result ≡ kids_of c.self.inside.nodes c.args.mount
   known =
-      c.items.ensures ∙ c.put_children.ensures.given ∙ c.drop_child.ensures.kids c.args.mount
-      ∙ told-there c.parent_at-parent.result (remove (kids_of c.self.inside.nodes c.parent_at-parent.result) c.place_at-place.result) (kids_of c.self.inside.nodes) c.args.mount
+      c.items.ensures ∙ c.put_children.ensures.given ∙ c.drop_child.ensures.list.kids c.args.mount
+      ∙ set-there c.parent_at-parent.result (remove (kids_of c.self.inside.nodes c.parent_at-parent.result) c.place_at-place.result) (kids_of c.self.inside.nodes) c.args.mount
       (λ same. apart c.self.inside c.self.invariant.shaped c.args.mount is c.parent_at-parent.result c.parent_at-parent.ensures (sym same))
 
   abbrev out : ℕ → Bool
@@ -83,25 +84,25 @@ module _ (c : goal.After-drop-documents-inside-2) where
         ∙ ap (λ (o : Option Entry). cond (nat_eq c.args.mount q) None o) (
         c.take_dropped.ensures.entries q
         ∙ ap (λ (b : Bool). cond {A = Option Entry} b None (entry_of c.put_children.new.nodes q)) (dropped q)
-        ∙ ap (λ (o : Option Entry). cond (out q) None o) (c.put_children.ensures.entries q ∙ c.drop_child.ensures.entries q));
-    named = λ q other stays. c.take_out.ensures.names q other ∙ c.take_dropped.ensures.names q (dropped q ∙ stays) ∙ c.put_children.ensures.names q ∙ c.drop_child.ensures.names q;
+        ∙ ap (λ (o : Option Entry). cond (out q) None o) (c.put_children.ensures.list.entries q ∙ c.drop_child.ensures.list.entries q));
+    named = λ q other stays. c.take_out.ensures.names q other ∙ c.take_dropped.ensures.names q (dropped q ∙ stays) ∙ c.put_children.ensures.list.names q ∙ c.drop_child.ensures.list.names q;
     lists = λ d.
         c.take_out.ensures.kids d
         ∙ ap (λ (ns : List ℕ). cond (nat_eq c.args.mount d) [] ns) (
         c.take_dropped.ensures.kids d
         ∙ ap (λ (b : Bool). cond {A = List ℕ} b [] (kids_of c.put_children.new.nodes d)) (dropped d)
         ∙ ap (λ (ns : List ℕ). cond (out d) [] ns) (
-        c.put_children.ensures.kids d
+        c.put_children.ensures.list.kids d
         ∙ ap (λ (ns : List ℕ). cond (nat_eq c.args.mount d) ns (kids_of c.drop_child.new.nodes d)) (ap (λ (x : Listed). x.items) c.new-documents.ensures)
         ∙ ap (λ (ns : List ℕ). cond (nat_eq c.args.mount d) [] ns) (
-        c.drop_child.ensures.kids d
+        c.drop_child.ensures.list.kids d
         ∙ ap (λ (i : ℕ). cond (nat_eq c.parent_at-parent.result d) (remove (kids_of c.self.inside.nodes c.parent_at-parent.result) i) (kids_of c.self.inside.nodes d)) (c.place_at-place.ensures (c.self.invariant.shaped.lists.rises c.parent_at-parent.result)))));
     numbers = λ q.
         c.take_out.ensures.numbers q
         ∙ ap (λ (b : Bool). cond (nat_eq c.args.mount q) false b) (
         c.take_dropped.ensures.numbers q
         ∙ ap (λ (b : Bool). cond b false (has_node c.put_children.new.nodes q)) (dropped q)
-        ∙ ap (λ (b : Bool). cond (out q) false b) (c.put_children.ensures.numbers q ∙ c.drop_child.ensures.numbers q));
+        ∙ ap (λ (b : Bool). cond (out q) false b) (c.put_children.ensures.list.numbers q ∙ c.drop_child.ensures.list.numbers q));
   }
 
   state : state_of u ≡ without_such (is_of_mount c.args.mount) c.args.self.now.state

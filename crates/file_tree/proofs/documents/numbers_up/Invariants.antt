@@ -1,7 +1,0 @@
-use Rattle.std.proofs.Common.{◌≡◌}
-use Rattle.file_tree.specs.Documents.{numbers_up}
-use Rattle.file_tree.proofs.documents.numbers_up.Given as goal
-
--- the numbers so far
-abbrev pub invariant-loop-place : goal.invariant-loop-place
-invariant-loop-place l = l.numbers.items ≡ numbers_up l.fn.first l.place

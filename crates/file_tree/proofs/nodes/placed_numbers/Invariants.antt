@@ -1,7 +1,0 @@
-use Rattle.std.proofs.Common.{◌≡◌, ◌++◌}
-use Rattle.file_tree.specs.Nodes.{placed_in}
-use Rattle.file_tree.proofs.nodes.placed_numbers.Given as goal
-
--- those found, and those among the nodes that are left, are all
-abbrev pub invariant-loop-number : goal.invariant-loop-number
-invariant-loop-number l = l.numbers.items ++ placed_in l.number-iterator ≡ placed_in l.nodes.entries
