@@ -10,11 +10,12 @@ ghost use Rattle.event_check.specs.Mounting.{are_told_by, is_kept_document, is_o
 ghost use Rattle.event_check.specs.Mounting.{is_told_by, will_have};
 
 use crate::fitting::is_free;
-use crate::telling::{are_documents, is_among, numbers_rise};
+use crate::telling::are_documents;
 use file_tree::Tree;
 use hac_model::{Memory, Name, Number, Seq};
 use hac_names::is_space_name;
 use kept_state::KeptState;
+use sorted_lists::{has_name, numbers_rise};
 use std::alloc::Global;
 
 /// Whether a space with these documents can be mounted, and what was told of each term in use are
@@ -182,7 +183,7 @@ fn keeps_document(tree: &Tree, names: &[Name], mount: Number, number: Number) ->
 {
     tree.is_document(number)
         && tree.parent(number) == mount
-        && is_among(names, tree.name_of(number))
+        && has_name(names, tree.name_of(number))
 }
 
 /// Whether a number is that of a new document.

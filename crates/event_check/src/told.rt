@@ -5,10 +5,10 @@ ghost use Rattle.hac_model.specs.Tree.Asking.{are_all_told};
 ghost use Rattle.hac_model.specs.Tree.Mounting.{is_document_of, is_told};
 ghost use Rattle.event_check.specs.Told.{are_answered};
 
-use crate::telling::numbers_rise;
 use file_tree::Tree;
 use hac_model::{Memory, Number, Query, Seq};
 use kept_state::KeptState;
+use sorted_lists::numbers_rise;
 use std::alloc::Global;
 use tree_answers::{Question, questions};
 

@@ -6,13 +6,14 @@ ghost use Rattle.std.specs.Option.{option_copied};
 ghost use Rattle.hac_model.specs.Query.Terms.{is_term_before};
 ghost use Rattle.hac_model.specs.Tree.Links.{has};
 ghost use Rattle.hac_model.specs.Tree.Mounts.{is_kept, kept_for};
-ghost use Rattle.hac_model.specs.Tree.Valid.{RiseFrom, TermsRise};
+ghost use Rattle.hac_model.specs.Tree.Valid.{TermsRise};
 ghost use Rattle.kept_facts.specs.Answers.{AreInOrder, KeepsOn, Replaces, SameAnswers, Takes};
 ghost use Rattle.kept_facts.specs.Answers.{WillReplace, answers_kept, answers_next, answers_with};
 ghost use Rattle.kept_facts.specs.AnswersKept.{has_list, list_at, told_of};
 
 use hac_model::{Answer, Memory, Number, Seq, Term};
 use indexmap::IndexMap;
+use sorted_lists::has_number;
 use std::alloc::Global;
 use std::marker::Model;
 use std::mem;
@@ -176,7 +177,7 @@ pub fn had(answers: &[Answer], term: &Term, document: Number) -> bool
         ≡ has (unwrap_or (kept_for answers.now term.now) []) document }
 {
     match documents_for(answers, term) {
-        Some(documents) => is_among(documents, document),
+        Some(documents) => has_number(documents, document),
         None => false,
     }
 }
@@ -208,13 +209,6 @@ fn rank(answers: &[Answer], term: &Term) -> usize
         prefix_len (λ answer. is_term_before answer.term term.now) answers.now }
 {
     answers.partition_point(|answer| answer.term.is_before(term))
-}
-
-/// Whether a number is one of those that rise.
-pub fn is_among(numbers: &[Number], number: Number) -> bool
-    ensures { RiseFrom 0 numbers.now → result ≡ has numbers.now number }
-{
-    numbers.binary_search(&number).is_ok()
 }
 
 /// The answers under a number.

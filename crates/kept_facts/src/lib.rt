@@ -12,7 +12,7 @@ mod room;
 pub mod sessions;
 mod terms;
 
-pub use answers::{Answers, Lists, had, is_among, is_answered, put_list};
+pub use answers::{Answers, Lists, had, is_answered, put_list};
 pub use edges::edges_of;
 pub use gains::with_answers;
 pub use room::Room;

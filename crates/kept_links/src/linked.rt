@@ -18,7 +18,7 @@ use hac_words::has_term;
 use kept_state::KeptState;
 use link_kinds::Links;
 use reeval::{Change, apply, reserve};
-use reindex::lookups::{is_document, know_lists, parent_of};
+use reindex::lookups::{is_document, parent_of};
 use reindex::{Way, delta_of_steps, shown_of};
 use std::alloc::Global;
 use std::marker::Model;
@@ -202,7 +202,7 @@ impl LinkedState {
         self.delta.clear();
         put_way(&mut self.way, &mut self.next);
         self.kept.know_valid();
-        know_lists(&self.found);
+        self.found.know_lists();
     }
 }
 

@@ -6,7 +6,6 @@ pub mod MountPutLemmas
 pub mod StateLemmas
 pub mod AnswerLemmas
 pub mod GainLemmas
-pub mod NameLemmas
 pub mod ForgetLemmas
 pub mod ReachLemmas
 pub mod ReaderLemmas

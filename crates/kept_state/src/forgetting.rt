@@ -1,9 +1,6 @@
 //! Marks on entries that go with a mount, or from it. No tree changes.
-ghost use Rattle.std.specs.Prelude.{◌≡◌, ◌≤◌, IsTrue, length};
-ghost use Rattle.std.specs.List.{prefix_len};
-ghost use Rattle.hac_model.specs.Tree.Listing.{is_before};
-ghost use Rattle.hac_model.specs.Tree.Mounting.{do_names_rise, is_among, is_gone, is_of_mount};
-ghost use Rattle.hac_model.specs.Tree.Mounting.{is_such_at};
+ghost use Rattle.std.specs.Prelude.{IsTrue};
+ghost use Rattle.hac_model.specs.Tree.Mounting.{do_names_rise, is_gone, is_of_mount, is_such_at};
 ghost use Rattle.hac_model.specs.Tree.Valid.{IsLayout};
 ghost use Rattle.hac_model.specs.Tree.{is_mount_at};
 ghost use Rattle.link_kinds.specs.Seen.{SameLinks};
@@ -12,7 +9,7 @@ ghost use Rattle.kept_state.specs.Forgetting.{ForgetsSuch};
 use file_tree::Tree;
 use hac_model::{Name, Number};
 use link_kinds::Links;
-use std::cmp::Ordering;
+use sorted_lists::has_name;
 
 /// Forgets all marks on a mount and on what is in it.
 pub fn forget_mount(marks: &mut Links, tree: &Tree, mount: Number)
@@ -41,7 +38,7 @@ pub fn forget_gone(marks: &mut Links, tree: &Tree, mount: Number, names: &[Name]
     let documents = tree.children(mount);
     'documents: for place in 0..documents.len() {
         let document = documents.at(place);
-        if !is_among(names, tree.name_of(document).as_bytes()) {
+        if !has_name(names, tree.name_of(document)) {
             marks.drop_item(document);
         }
     }
@@ -52,30 +49,4 @@ fn know_layout(tree: &Tree)
     ensures { IsLayout tree.now.state }
 {
     let _next = tree.next_number();
-}
-
-/// Whether a name is one of those that rise.
-fn is_among(names: &[Name], name: &[u8]) -> bool
-    requires { IsTrue (do_names_rise names.now) }
-    ensures { result ≡ is_among names.now name.now }
-{
-    match names.get(rank(names, name)) {
-        Some(other) => name == other.as_bytes(),
-        None => false,
-    }
-}
-
-/// How many of the names come before this one.
-fn rank(names: &[Name], name: &[u8]) -> usize
-    requires { IsTrue (do_names_rise names.now) }
-    ensures within { result ≤ length names.now }
-    ensures rank { result ≡ prefix_len (λ other. is_before other name.now) names.now }
-{
-    names.partition_point(|other| is_before(other.as_bytes(), name))
-}
-
-fn is_before(name: &[u8], other: &[u8]) -> bool
-    ensures { result ≡ is_before name.now other.now }
-{
-    matches!(name.cmp(other), Ordering::Less)
 }

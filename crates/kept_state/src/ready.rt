@@ -13,7 +13,7 @@ ghost use Rattle.hac_model.specs.Tree.{is_directory_at, is_mount_at};
 ghost use Rattle.dep_graph.specs.Graphs.{edges_of, replaced};
 ghost use Rattle.file_tree.specs.Documents.{numbers_for};
 ghost use Rattle.file_tree.specs.declared.ready.Ready.TheVariants as tree;
-ghost use Rattle.link_kinds.specs.Seen.{LinkListsRise, has_sets};
+ghost use Rattle.link_kinds.specs.Seen.{has_sets};
 ghost use Rattle.kept_state.specs.Parts.{AreAlike, IsLinked, WillHave, edges_marked, edges_then};
 ghost use Rattle.kept_state.specs.Parts.{state_of};
 ghost use Rattle.kept_state.specs.Ready.{AnswersReady, CanCommit, GainsReady, IsCommitted, IsReady};
@@ -24,7 +24,6 @@ use crate::parts::Parts;
 use dep_graph::{Graph, NewEdges};
 use file_tree::{EntryKind, NewBody};
 use hac_model::{Counts, DOCS_LIMIT, Event, Mark, Memory, Name, Number, Query, Seq, Session, Text};
-use link_kinds::Links;
 use std::alloc::Global;
 use std::mem;
 
@@ -413,16 +412,9 @@ fn put_mark(kept: &mut Parts, mark: Mark, edges: Option<NewEdges>)
     requires suits { IsPreparedFor (Event.Mark mark) edges kept.old }
     ensures { IsCommitted (Event.Mark mark) kept.old kept.new }
 {
-    know_lists(&kept.marks);
+    kept.marks.know_lists();
     kept.marks.set_kind(mark.dir, mark.item, mark.kind);
     put_edges(&mut kept.graph, edges);
-}
-
-/// What links keep: all lists rise.
-fn know_lists(marks: &Links)
-    ensures { LinkListsRise marks.now }
-{
-    let _kind = marks.kind(Number::ROOT, Number::ROOT);
 }
 
 /// Gives a file the text that was prepared.

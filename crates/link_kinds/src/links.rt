@@ -88,6 +88,13 @@ impl Links {
         }
     }
 
+    /// All lists rise. This does nothing: it is called where a proof has to know so.
+    pub fn know_lists(&self)
+        ensures { LinkListsRise self.now }
+    {
+        let _pool = &self.pool;
+    }
+
     /// Whether linked directories lend an item to a directory.
     pub fn lent(&self, dir: Number, item: Number) -> bool
         ensures { result ≡ is_among item (lent_in self.now dir) }

@@ -10,7 +10,7 @@ ghost use Rattle.reindex.specs.Ways.{IsWayOf};
 
 use crate::fitted::Fitted;
 use crate::indexing::{Indexing, shown_of};
-use crate::lookups::{is_document, is_item, know_lists};
+use crate::lookups::{is_document, is_item};
 use crate::texts::stops_fitting;
 use crate::unjudged::Unjudged;
 use crate::ways::{FEW_STOPS, Way};
@@ -38,7 +38,7 @@ pub fn links_of<L: Ledger>(
     for number in kept.numbers(alloc)? {
         add_links(alloc, kept, way, &mut found, number, probes)?;
     }
-    know_lists(&found);
+    found.know_lists();
     Ok(found)
 }
 

@@ -4,11 +4,9 @@ ghost use Rattle.std.specs.Option.{option_copied};
 ghost use Rattle.hac_model.specs.Tree.{is_document_at};
 ghost use Rattle.hac_model.specs.Tree.Events.{next_dirty};
 ghost use Rattle.hac_model.specs.Tree.Links.{is_item, parent_of, query_at};
-ghost use Rattle.link_kinds.specs.Seen.{LinkListsRise};
 
 use hac_model::{Number, Query};
 use kept_state::KeptState;
-use link_kinds::Links;
 
 /// The number that the next entry takes.
 pub fn next_number(kept: &KeptState) -> Number
@@ -50,11 +48,4 @@ pub fn query_at(kept: &KeptState, dir: Number) -> Option<&Query<Number>>
     ensures { option_copied result ≡ query_at kept.now.state dir }
 {
     kept.tree().query(dir)
-}
-
-/// What links keep: all lists rise. This does nothing: it is called where a proof has to know so.
-pub fn know_lists(links: &Links)
-    ensures { LinkListsRise links.now }
-{
-    let _kind = links.kind(Number::ROOT, Number::ROOT);
 }

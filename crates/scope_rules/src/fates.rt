@@ -3,14 +3,14 @@ ghost use Rattle.std.specs.Prelude.{◌≡◌, ◌==◌, false, if◌then◌else
 ghost use Rattle.std.specs.Option.{option_copied, option_map_or};
 ghost use Rattle.hac_model.specs.Tree.Events.{next_dirty};
 ghost use Rattle.hac_model.specs.Tree.Links.{parent_of, query_at};
-ghost use Rattle.hac_model.specs.Tree.Mounting.{do_names_rise, is_among, is_gone, is_of_mount};
-ghost use Rattle.hac_model.specs.Tree.Mounting.{is_such_at};
+ghost use Rattle.hac_model.specs.Tree.Mounting.{do_names_rise, is_gone, is_of_mount, is_such_at};
 ghost use Rattle.hac_model.specs.Tree.{is_file_at};
 ghost use Rattle.scope_rules.specs.Fates.{SuitsTree, goes, is_indexed, left_parent, left_query};
 ghost use Rattle.scope_rules.specs.Fates.{left_shown};
 
 use file_tree::Tree;
 use hac_model::{Event, Name, Number, Query};
+use sorted_lists::has_name;
 
 /// Whether the entry of a number goes.
 pub(crate) fn goes(tree: &Tree, event: &Event, number: Number) -> bool
@@ -33,14 +33,7 @@ fn is_gone(tree: &Tree, mount: Number, names: &[Name], number: Number) -> bool
 {
     tree.is_document(number)
         && tree.parent(number) == mount
-        && !is_among(names, tree.name_of(number))
-}
-
-/// Whether a name is one of those that rise.
-fn is_among(names: &[Name], name: &Name) -> bool
-    ensures { IsTrue (do_names_rise names.now) → result ≡ is_among names.now name.now }
-{
-    names.binary_search(name).is_ok()
+        && !has_name(names, tree.name_of(number))
 }
 
 /// Whether the number is that of a mount, or of what is in it.

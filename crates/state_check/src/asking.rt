@@ -12,9 +12,9 @@ ghost use Rattle.layout_check.specs.Rising.{DoRise};
 use crate::finding::{can_be_added, is_item};
 use crate::rising::do_rise;
 use hac_model::{Body, Entry, Node, Number, Query, State};
-use kept_facts::is_among;
 use layout_check::is_directory_at;
 use query_text::is_query;
+use sorted_lists::has_number;
 
 /// Whether each semantic directory may ask its query, and its marks are sound.
 pub(crate) fn do_ask_well(state: &State) -> bool
@@ -120,5 +120,5 @@ fn is_apart(number: Number, others: &[Number]) -> bool
     requires { RiseFrom 0 others.now }
     ensures { result ≡ not (links.has others.now number) }
 {
-    !is_among(others, number)
+    !has_number(others, number)
 }

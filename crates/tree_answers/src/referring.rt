@@ -2,15 +2,14 @@
 ghost use Rattle.std.specs.Prelude.{◌≡◌, map, IfOk, IsTrue};
 ghost use Rattle.hac_model.specs.Tree.Depends.{referrers};
 ghost use Rattle.hac_model.specs.Tree.Events.{is_unreferenced};
-ghost use Rattle.hac_model.specs.Tree.Listing.{is_before};
 ghost use Rattle.hac_model.specs.Run.Refusals.{least_path, lesser_path};
 ghost use Rattle.hac_model.specs.Tree.{is_directory_at, path_of};
 
 use hac_model::{Memory, Number, Path};
 use hac_names::print_path;
 use kept_state::KeptState;
+use sorted_lists::is_before;
 use std::alloc::Global;
-use std::cmp::Ordering;
 
 /// The least of the paths of directories that refer to a directory, if there are any.
 pub fn least_referrer(alloc: Global, kept: &KeptState, dir: Number) -> Result<Option<Path>, Memory>
@@ -61,10 +60,4 @@ fn lesser(alloc: Global, path: Path, other: Path) -> Result<Path, Memory>
     } else {
         Ok(path)
     }
-}
-
-fn is_before(bytes: &[u8], other: &[u8]) -> bool
-    ensures { result ≡ is_before bytes.now other.now }
-{
-    matches!(bytes.cmp(other), Ordering::Less)
 }

@@ -18,6 +18,7 @@ use crate::pending::Pending;
 use hac_model::{Answer, Memory, Number, Seq, Term};
 use hac_outside::Steps;
 use indexmap::IndexMap;
+use sorted_lists::has_number;
 use std::alloc::Global;
 use std::marker::Model;
 use std::sync::ledger::Ledger;
@@ -88,7 +89,7 @@ impl Index {
     {
         probes.tick();
         match self.documents_after(next, mount, term) {
-            Some(documents) => is_among(documents, document),
+            Some(documents) => has_number(documents, document),
             None => false,
         }
     }
@@ -179,12 +180,4 @@ impl Index {
             None => kept::documents_for(&self.kept, mount, term),
         }
     }
-}
-
-/// Whether a number is one of those that rise.
-fn is_among(numbers: &[Number], number: Number) -> bool
-    requires { RiseFrom 0 numbers.now }
-    ensures { result ≡ has numbers.now number }
-{
-    numbers.binary_search(&number).is_ok()
 }

@@ -10,5 +10,5 @@ pub returns-in-Some : goal.returns-in-Some
 returns-in-Some c = λ order.
     let list = c.args.answers.now in
     let found : kept_for list c.args.term.now ≡ Some c.in-Some.documents.now = sym (c.documents_for.ensures order.terms) ∙ ap (λ o. option_copied o) c.in-Some.is in
-    c.is_among.ensures (found-rise list c.args.term.now c.in-Some.documents.now order.documents found)
+    c.has_number.ensures (found-rise list c.args.term.now c.in-Some.documents.now order.documents found)
     ∙ ap (λ (o : Option (List ℕ)). has (unwrap_or o []) c.args.document) (sym found)

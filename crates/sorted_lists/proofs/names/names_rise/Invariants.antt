@@ -1,5 +1,5 @@
 use Rattle.hac_model.proofs.NameOrderLemmas.{IsChainTo}
-use Rattle.event_check.proofs.telling.names_rise.Given as goal
+use Rattle.sorted_lists.proofs.names.names_rise.Given as goal
 
 -- the names so far rise
 abbrev pub invariant-loop-i : goal.invariant-loop-i

@@ -1,21 +1,18 @@
 -- Names and numbers that rise, by neighbours.
 use Rattle.std.proofs.Common.{◌≡◌, ℕ, zero, suc, ◌+◌, ◌-◌, ◌<◌, ◌≤◌, true, false, List, [], ◌∷◌, length, get_or, refl, ap, sym, ◌∙◌, arith, inl, inr}
 use Rattle.std.specs.Prelude.{nat_le}
-use Rattle.std.specs.Cmp.Lexicographic.{nat_list_cmp_total, slice_cmp}
 use Rattle.std.specs.List.{list_all}
-use Rattle.std.specs.Ordering.{is_le, is_lt, nat_cmp}
+use Rattle.std.specs.Ordering.{is_le, nat_cmp}
 use Rattle.std.proofs.lemmas.Bool.{and_from, and_parts, cases_lt, leb-true, le-leb}
 use Rattle.std.proofs.lemmas.Bool.Decides.{nat_tests}
 use Rattle.hac_model.specs.Tree.Listing.{is_before}
 use Rattle.hac_model.specs.Tree.Mounting.{do_names_rise, do_rise_from}
-use Rattle.hac_model.proofs.NameOrderLemmas.{IsChain, IsChainTo, chain-rises, less-from}
+use Rattle.hac_model.proofs.NameOrderLemmas.{IsChain, IsChainTo, chain-rises}
+use Rattle.sorted_lists.proofs.OrderLemmas.{before-trans}
 
 -- Names.
 
-before-trans : (x y z : List ℕ) → is_before x y ≡ true → is_before y z ≡ true → is_before x z ≡ true
-before-trans x y z h k = ap is_lt (nat_list_cmp_total.trans x y z (less-from (slice_cmp nat_cmp x y) h) (less-from (slice_cmp nat_cmp y z) k))
-
--- so it comes before all behind it
+-- a name comes before all behind it
 chain-all : (x : List ℕ) (xs : List (List ℕ)) → IsChain (x ∷ xs) → list_all (is_before x) xs ≡ true
 chain-all x [] chain = refl
 chain-all x (y ∷ ys) chain =

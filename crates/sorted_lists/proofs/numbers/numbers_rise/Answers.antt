@@ -1,6 +1,6 @@
 use Rattle.std.proofs.Common.{sym, ◌∙◌, arith}
-use Rattle.event_check.proofs.NamesLemmas.{rises-row, row-breaks, row-more}
-use Rattle.event_check.proofs.telling.numbers_rise.Goals as goal
+use Rattle.sorted_lists.proofs.NeighbourLemmas.{rises-row, row-breaks, row-more}
+use Rattle.sorted_lists.proofs.numbers.numbers_rise.Goals as goal
 
 pub loop-i-preserved : goal.loop-i-preserved
 loop-i-preserved c =

@@ -1,5 +1,5 @@
-use Rattle.event_check.proofs.NamesLemmas.{IsRowTo}
-use Rattle.event_check.proofs.telling.numbers_rise.Given as goal
+use Rattle.sorted_lists.proofs.NeighbourLemmas.{IsRowTo}
+use Rattle.sorted_lists.proofs.numbers.numbers_rise.Given as goal
 
 -- the numbers so far rise
 abbrev pub invariant-loop-i : goal.invariant-loop-i

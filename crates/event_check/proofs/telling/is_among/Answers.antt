@@ -1,6 +1,0 @@
-use Rattle.std.proofs.Common.{◌∙◌}
-use Rattle.hac_model.proofs.NameOrderLemmas.{searched-among}
-use Rattle.event_check.proofs.telling.is_among.Goals as goal
-
-pub returns : goal.returns
-returns c = c.is_ok.ensures.value ∙ searched-among c.args.names.now c.args.name.now c.binary_search.result c.binary_search.ensures.position c.requires
