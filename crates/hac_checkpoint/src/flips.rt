@@ -5,8 +5,8 @@ ghost use Rattle.byteorder.specs.Endian.{little_bytes};
 ghost use Rattle.hac_outside.specs.Causes.{HasCause};
 ghost use Rattle.hac_disk.specs.Images.{IsQuiet, LeavesOnly};
 ghost use Rattle.hac_disk.specs.Contents.{RangeWithin};
-ghost use Rattle.hac_checkpoint.specs.Flips.{HasRoot, HasSpareSlot, IsFilled, next_root};
-ghost use Rattle.hac_checkpoint.specs.Flips.{other_slot};
+ghost use Rattle.hac_checkpoint.specs.Flips.{HasRoot, HasSpareSlot, IsFilled, WritesSpare};
+ghost use Rattle.hac_checkpoint.specs.Flips.{next_root, other_slot};
 ghost use Rattle.hac_checkpoint.specs.Roots.{gate_of, is_open};
 ghost use Rattle.hac_checkpoint.specs.Writes.{IsSettledWith, WritesWithin};
 
@@ -34,17 +34,8 @@ impl Slot {
 pub fn close_and_fill<D: Disk>(disk: &mut D, live: Root, start: u64) -> Result<(), Failed>
     requires head { RangeWithin (D.seen disk.old).contents 0 64 }
     requires generation { live.generation < 2 ^ 64 - 1 }
-    ensures filled { IsSettledWith (HasRoot live) (D.seen disk.old) →
-        OnOk result (IsSettledWith (IsFilled live start) (D.seen disk.new)) }
-
-    // At each moment a crash leaves the live root.
-    ensures any_moment { IsSettledWith (HasRoot live) (D.seen disk.old) →
-        LeavesOnly (D.seen disk.old) (D.seen disk.new) (HasRoot live) }
-
-    ensures elsewhere { WritesWithin (gate_of (other_slot live.slot)) 17 (D.seen disk.old)
-        (D.seen disk.new) }
-    ensures attached { (D.seen disk.new).attached ≡ (D.seen disk.old).attached }
-    ensures cause { HasCause (D.seen disk.old).faults (D.seen disk.new).faults result }
+    ensures { WritesSpare live (HasRoot live) (IsFilled live start)
+        (D.seen disk.old) (D.seen disk.new) result }
 {
     close_spare(disk, live)?;
     fill_spare(disk, live, start)
@@ -53,14 +44,8 @@ pub fn close_and_fill<D: Disk>(disk: &mut D, live: Root, start: u64) -> Result<(
 // Closes the slot that doesn't count, where it is open.
 fn close_spare<D: Disk>(disk: &mut D, live: Root) -> Result<(), Failed>
     requires { RangeWithin (D.seen disk.old).contents 0 64 }
-    ensures closed { IsSettledWith (HasRoot live) (D.seen disk.old) →
-        OnOk result (IsSettledWith (HasSpareSlot live) (D.seen disk.new)) }
-    ensures any_moment { IsSettledWith (HasRoot live) (D.seen disk.old) →
-        LeavesOnly (D.seen disk.old) (D.seen disk.new) (HasRoot live) }
-    ensures elsewhere { WritesWithin (gate_of (other_slot live.slot)) 17 (D.seen disk.old)
-        (D.seen disk.new) }
-    ensures attached { (D.seen disk.new).attached ≡ (D.seen disk.old).attached }
-    ensures cause { HasCause (D.seen disk.old).faults (D.seen disk.new).faults result }
+    ensures { WritesSpare live (HasRoot live) (HasSpareSlot live)
+        (D.seen disk.old) (D.seen disk.new) result }
 {
     let slot = live.slot.other();
     if !reads_open(disk, slot)? {
@@ -87,14 +72,8 @@ fn reads_open<D: Disk>(disk: &mut D, slot: Slot) -> Result<bool, Failed>
 fn fill_spare<D: Disk>(disk: &mut D, live: Root, start: u64) -> Result<(), Failed>
     requires head { RangeWithin (D.seen disk.old).contents 0 64 }
     requires generation { live.generation < 2 ^ 64 - 1 }
-    ensures filled { IsSettledWith (HasSpareSlot live) (D.seen disk.old) →
-        OnOk result (IsSettledWith (IsFilled live start) (D.seen disk.new)) }
-    ensures any_moment { IsSettledWith (HasSpareSlot live) (D.seen disk.old) →
-        LeavesOnly (D.seen disk.old) (D.seen disk.new) (HasRoot live) }
-    ensures elsewhere { WritesWithin (gate_of (other_slot live.slot)) 17 (D.seen disk.old)
-        (D.seen disk.new) }
-    ensures attached { (D.seen disk.new).attached ≡ (D.seen disk.old).attached }
-    ensures cause { HasCause (D.seen disk.old).faults (D.seen disk.new).faults result }
+    ensures { WritesSpare live (HasSpareSlot live) (IsFilled live start)
+        (D.seen disk.old) (D.seen disk.new) result }
 {
     let body = slot_body(live.generation + 1, start);
     write_stable(disk, gate_place(live.slot.other()) as u64 + 1, &body)

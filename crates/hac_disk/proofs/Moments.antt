@@ -1,5 +1,5 @@
 -- What a crash at any moment leaves, as one call after another goes on.
-use Rattle.std.proofs.Common.{inl, inr, ⊎_elim, ℕ, List, arith}
+use Rattle.std.proofs.Common.{inl, inr, ⊎_elim, ℕ, List, ◌∙◌, arith}
 use Rattle.hac_disk.specs.Images.{Elapses, IsQuiet, LeavesOnly}
 use Rattle.hac_disk.specs.Seen.{DiskSeen}
 
@@ -38,6 +38,16 @@ weaken old new P Q then_q run = record {
   later = run.later;
   each = λ c left. then_q c (run.each c left);
   before = λ t c le left. ⊎_elim (λ past. inl past) (λ p. inr (then_q c p)) (run.before t c le left);
+}
+
+-- two quiet calls are one
+pub quiet_twice : (old mid new : DiskSeen) → IsQuiet old mid → IsQuiet mid new → IsQuiet old new
+quiet_twice old mid new first second = record {
+  same = second.same ∙ first.same;
+  images = λ c left. first.images c (second.images c left);
+  later = omega (arith, first.later, second.later);
+  past = λ t c le left. first.past t c le (second.past t c (omega (arith, le, first.later)) left);
+  keeps = λ t c le left. second.keeps t c (omega (arith, le, first.later)) (first.keeps t c le left);
 }
 
 -- one quiet call, where an image at its begin has P

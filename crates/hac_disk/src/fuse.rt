@@ -1,9 +1,9 @@
 //! A disk that stops after a number of calls.
-ghost use Rattle.std.specs.Prelude.{◌≡◌, ◌+◌, ◌-◌, ◌↔◌, IfOk, IsErr, OnErr, OnOk, if◌then◌else◌};
+ghost use Rattle.std.specs.Prelude.{◌≡◌, ◌-◌, ◌↔◌, IfOk, IsErr, OnErr, OnOk, if◌then◌else◌};
 ghost use Rattle.std.specs.Prelude.{is_ok, length};
 ghost use Rattle.hac_outside.specs.Calls.{next_number};
 ghost use Rattle.hac_outside.specs.Causes.{HasCause};
-ghost use Rattle.hac_disk.specs.Fuse.{Burns, behind_fuse, fuse_lawful};
+ghost use Rattle.hac_disk.specs.Fuse.{Burns, BurnsQuietly, behind_fuse, fuse_lawful};
 ghost use Rattle.hac_disk.specs.Images.{Elapses, Follows, IsQuiet, IsSettled, Torn};
 ghost use Rattle.hac_disk.specs.Contents.{Attaches, HasLength, RangeWithin, StandAt};
 ghost use Rattle.hac_disk.specs.Contents.{StartsWithin, Written, WrittenInPart};
@@ -48,8 +48,8 @@ impl<D: Disk> FuseDisk<D> {
         ensures blown { self.new.blown ≡ (if is_ok result then self.old.blown else next_number
             self.old.blown) }
         ensures disk { self.new.disk ≡ self.old.disk }
-        ensures cause { HasCause ((D.seen self.old.disk).faults + self.old.blown)
-            ((D.seen self.new.disk).faults + self.new.blown) result }
+        ensures cause { HasCause (behind_fuse D.seen self.old).faults
+            (behind_fuse D.seen self.new).faults result }
     {
         if self.calls == 0 {
             self.blown = self.blown.saturating_add(1);
@@ -61,19 +61,15 @@ impl<D: Disk> FuseDisk<D> {
 }
 
 impl<D: Disk> Disk for FuseDisk<D> {
-    ghost seen = { λ fuse. behind_fuse (D.seen fuse.disk) fuse.blown };
+    ghost seen = { behind_fuse D.seen };
 
-    ghost lawful = { λ fuse. fuse_lawful (D.seen fuse.disk) fuse.blown (D.lawful fuse.disk) };
+    ghost lawful = { λ fuse. fuse_lawful D.seen fuse (D.lawful fuse.disk) };
 
     fn attach(&mut self, name: &str, make: bool) -> Result<(), Failed>
         ensures attached { Attaches (D.seen self.old.disk).attached name.now make result
             (D.seen self.new.disk).attached }
-        ensures quiet { IsQuiet (behind_fuse (D.seen self.old.disk) self.old.blown)
-            (behind_fuse (D.seen self.new.disk) self.new.blown) }
-        ensures cause { HasCause ((D.seen self.old.disk).faults + self.old.blown)
-            ((D.seen self.new.disk).faults + self.new.blown) result }
-        ensures passes { Burns D.seen self.old.calls self.new.calls self.old.disk self.new.disk
-            result }
+        ensures quiet { IsQuiet (behind_fuse D.seen self.old) (behind_fuse D.seen self.new) }
+        ensures burns { Burns D.seen self.old self.new result }
     {
         self.burn()?;
         self.disk.attach(name, make)
@@ -81,13 +77,7 @@ impl<D: Disk> Disk for FuseDisk<D> {
 
     fn len(&mut self) -> Result<u64, Failed>
         ensures len { IfOk result (λ len. HasLength (D.seen self.old.disk).contents len) }
-        ensures attached { (D.seen self.new.disk).attached ≡ (D.seen self.old.disk).attached }
-        ensures quiet { IsQuiet (behind_fuse (D.seen self.old.disk) self.old.blown)
-            (behind_fuse (D.seen self.new.disk) self.new.blown) }
-        ensures cause { HasCause ((D.seen self.old.disk).faults + self.old.blown)
-            ((D.seen self.new.disk).faults + self.new.blown) result }
-        ensures passes { Burns D.seen self.old.calls self.new.calls self.old.disk self.new.disk
-            result }
+        ensures burns { BurnsQuietly D.seen self.old self.new result }
     {
         self.burn()?;
         self.disk.len()
@@ -96,13 +86,7 @@ impl<D: Disk> Disk for FuseDisk<D> {
     fn read_at(&mut self, at: u64, into: &mut [u8]) -> Result<(), Failed>
         requires { RangeWithin (D.seen self.old.disk).contents at (length into.old) }
         ensures read { OnOk result (StandAt (D.seen self.old.disk).contents at into.new) }
-        ensures attached { (D.seen self.new.disk).attached ≡ (D.seen self.old.disk).attached }
-        ensures quiet { IsQuiet (behind_fuse (D.seen self.old.disk) self.old.blown)
-            (behind_fuse (D.seen self.new.disk) self.new.blown) }
-        ensures cause { HasCause ((D.seen self.old.disk).faults + self.old.blown)
-            ((D.seen self.new.disk).faults + self.new.blown) result }
-        ensures passes { Burns D.seen self.old.calls self.new.calls self.old.disk self.new.disk
-            result }
+        ensures burns { BurnsQuietly D.seen self.old self.new result }
     {
         self.burn()?;
         self.disk.read_at(at, into)
@@ -116,28 +100,17 @@ impl<D: Disk> Disk for FuseDisk<D> {
             at (length bytes.now) (D.seen self.new.disk).contents) }
         ensures images { Follows (Torn at (length bytes.now)) (D.seen self.old.disk).image
             (D.seen self.new.disk).image }
-        ensures time { Elapses (behind_fuse (D.seen self.old.disk) self.old.blown)
-            (behind_fuse (D.seen self.new.disk) self.new.blown) }
+        ensures time { Elapses (behind_fuse D.seen self.old) (behind_fuse D.seen self.new) }
         ensures attached { (D.seen self.new.disk).attached ≡ (D.seen self.old.disk).attached }
-        ensures cause { HasCause ((D.seen self.old.disk).faults + self.old.blown)
-            ((D.seen self.new.disk).faults + self.new.blown) result }
-        ensures passes { Burns D.seen self.old.calls self.new.calls self.old.disk self.new.disk
-            result }
+        ensures burns { Burns D.seen self.old self.new result }
     {
         self.burn()?;
         self.disk.write_at(at, bytes)
     }
 
     fn sync(&mut self) -> Result<(), Failed>
-        ensures settled { OnOk result (IsSettled
-            (behind_fuse (D.seen self.new.disk) self.new.blown)) }
-        ensures attached { (D.seen self.new.disk).attached ≡ (D.seen self.old.disk).attached }
-        ensures quiet { IsQuiet (behind_fuse (D.seen self.old.disk) self.old.blown)
-            (behind_fuse (D.seen self.new.disk) self.new.blown) }
-        ensures cause { HasCause ((D.seen self.old.disk).faults + self.old.blown)
-            ((D.seen self.new.disk).faults + self.new.blown) result }
-        ensures passes { Burns D.seen self.old.calls self.new.calls self.old.disk self.new.disk
-            result }
+        ensures settled { OnOk result (IsSettled (behind_fuse D.seen self.new)) }
+        ensures burns { BurnsQuietly D.seen self.old self.new result }
     {
         self.burn()?;
         self.disk.sync()

@@ -2,8 +2,6 @@
 use Rattle.std.proofs.Common.{◌≡◌, ℕ, ◌-◌, ◌≤◌, List, length, None, Some, IfSome, Result, Ok, Err, sym, ◌∙◌, ap, subst, arith, Vec}
 use Rattle.std.specs.declared.alloc.Global.{Global}
 use Rattle.std.specs.declared.option.Option.{Option}
-use Rattle.hac_disk.specs.Images.{IsQuiet}
-use Rattle.hac_disk.specs.Seen.{DiskSeen}
 use Rattle.hac_checkpoint.specs.Roots.{placed, root_of, IsRootSeen}
 use Rattle.hac_checkpoint.specs.declared.heads.Root.{Root}
 use Rattle.hac_checkpoint.specs.declared.heads.RootFault.{RootFault}
@@ -136,13 +134,3 @@ pub opens-rootless : (seen : Option (List ℕ)) (why : RootFault) → IsRootSeen
 opens-rootless None why is = tt
 opens-rootless (Some file) root.Disk is = tt
 opens-rootless (Some file) (root.Bad at) is = root-fault file at is
-
--- two quiet calls, one after the other
-pub quiet-twice : (old mid new : DiskSeen) → IsQuiet old mid → IsQuiet mid new → IsQuiet old new
-quiet-twice old mid new first second = record {
-  same = second.same ∙ first.same;
-  images = λ c left. first.images c (second.images c left);
-  later = omega (arith, first.later, second.later);
-  past = λ t c early left. first.past t c early (second.past t c (omega (arith, early, first.later)) left);
-  keeps = λ t c early left. second.keeps t c (omega (arith, early, first.later)) (first.keeps t c early left);
-}

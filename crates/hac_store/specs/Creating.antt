@@ -1,13 +1,13 @@
 -- What is on a disk while a new store is made. Of a disk that tells nothing, nothing is said.
 use Rattle.std.specs.Prelude.{◌≡◌, ℕ, List, drop, take, None, Some, ⊤, Result, Ok, Err, IfOk, IfSome, IsErr, OnOk}
 use Rattle.std.specs.declared.option.Option.{Option}
-use Rattle.hac_disk.specs.Images.{IsQuiet}
+use Rattle.hac_disk.specs.Images.{IsQuiet, IsSettled, LeavesOnly}
 use Rattle.hac_disk.specs.Seen.{DiskSeen}
 use Rattle.hac_model.specs.Run.Play.{new_setting}
-use Rattle.hac_outside.specs.Causes.{ReportsFault}
+use Rattle.hac_outside.specs.Causes.{HasCause, ReportsFault}
 use Rattle.hac_store.specs.Faults.{is_disk_fault}
 use Rattle.hac_store.specs.Held.{held}
-use Rattle.hac_store.specs.Stores.{Bears, Seen, Stands, first_store}
+use Rattle.hac_store.specs.Stores.{Bears, IsNewOrNone, Seen, Stands, first_store}
 use Rattle.hac_store.specs.declared.fault.StoreFault.{StoreFault}
 use Rattle.hac_store.specs.declared.fault.StoreFault.TheVariants.{NotStore, AlreadyStore, Full, Memory}
 use Rattle.hac_store.specs.declared.creating.TheConstants.{NEW}
@@ -32,6 +32,15 @@ Becomes (Some old) P (Some new) = P new
 -- behind its first byte it goes on as a new store
 abbrev pub IsReady : List ℕ → Type 0
 IsReady file = take 64 (drop 1 file) ≡ drop 1 NEW
+
+-- Over a file that holds no store, at each moment a crash leaves the root alone, or no store; after Ok the file has P, and
+-- nothing is pending.
+pub record WritesNew {T E : Type 0} (P : List ℕ → Type 0) (old new : DiskSeen) (result : Result T E) : Type 0 where
+  pub becomes : OnOk result (Becomes old.contents P new.contents)
+  pub settled : OnOk result (IsSettled new)
+  pub any_moment : IfSome old.contents (λ _. LeavesOnly old new IsNewOrNone)
+  pub attached : new.attached ≡ old.attached
+  pub cause : HasCause old.faults new.faults result
 
 -- What making a store does: after Ok the disk holds the root alone and bears the first store, and where memory ran out
 -- nothing was written.

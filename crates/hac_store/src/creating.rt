@@ -5,7 +5,7 @@ ghost use Rattle.hac_disk.specs.Images.{IsQuiet, IsSettled, LeavesOnly};
 ghost use Rattle.hac_disk.specs.Contents.{HasByteAt};
 ghost use Rattle.hac_journal.specs.Appending.{ClosedAt};
 ghost use Rattle.hac_model.specs.Run.Play.{new_setting};
-ghost use Rattle.hac_store.specs.Creating.{Becomes, Creates, IsReady, HoldsNone, none_in};
+ghost use Rattle.hac_store.specs.Creating.{Creates, HoldsNone, IsReady, WritesNew, none_in};
 ghost use Rattle.hac_store.specs.Held.{held};
 ghost use Rattle.hac_store.specs.Loading.{loading};
 ghost use Rattle.hac_store.specs.Stores.{Bears, IsNewOrNone, Stands, first_store};
@@ -112,13 +112,7 @@ fn write_new<D: Disk>(disk: &mut D) -> Result<(), Failed>
 fn write_head<D: Disk>(disk: &mut D) -> Result<(), Failed>
     requires settled { IsSettled (D.seen disk.old) }
     requires unheld { HoldsNone (D.seen disk.old).contents }
-    ensures ready { OnOk result (Becomes (D.seen disk.old).contents IsReady
-        (D.seen disk.new).contents) }
-    ensures settled { OnOk result (IsSettled (D.seen disk.new)) }
-    ensures any_moment { IfSome (D.seen disk.old).contents
-        (λ _. LeavesOnly (D.seen disk.old) (D.seen disk.new) IsNewOrNone) }
-    ensures attached { (D.seen disk.new).attached ≡ (D.seen disk.old).attached }
-    ensures cause { HasCause (D.seen disk.old).faults (D.seen disk.new).faults result }
+    ensures { WritesNew IsReady (D.seen disk.old) (D.seen disk.new) result }
 {
     if disk.len()? == 0 {
         return write_stable(disk, 0, &NEW);
@@ -132,13 +126,7 @@ fn close<D: Disk>(disk: &mut D) -> Result<(), Failed>
     requires some { HasByteAt (D.seen disk.old).contents 0 }
     requires settled { IsSettled (D.seen disk.old) }
     requires unheld { HoldsNone (D.seen disk.old).contents }
-    ensures shut { OnOk result (Becomes (D.seen disk.old).contents (ClosedAt 0)
-        (D.seen disk.new).contents) }
-    ensures settled { OnOk result (IsSettled (D.seen disk.new)) }
-    ensures any_moment { IfSome (D.seen disk.old).contents
-        (λ _. LeavesOnly (D.seen disk.old) (D.seen disk.new) IsNewOrNone) }
-    ensures attached { (D.seen disk.new).attached ≡ (D.seen disk.old).attached }
-    ensures cause { HasCause (D.seen disk.old).faults (D.seen disk.new).faults result }
+    ensures { WritesNew (ClosedAt 0) (D.seen disk.old) (D.seen disk.new) result }
 {
     let mut gate = [OPEN];
     disk.read_at(0, &mut gate)?;

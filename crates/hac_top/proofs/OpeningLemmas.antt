@@ -1,11 +1,12 @@
 -- How a store is opened once the file of the store is attached: what is told of each call is told of both.
-use Rattle.std.proofs.Common.{◌≡◌, ℕ, true, false, Bool, List, refl, ap, sym, ◌∙◌, subst, arith, rules}
+use Rattle.std.proofs.Common.{◌≡◌, ℕ, true, false, Bool, List, refl, ap, sym, ◌∙◌, subst, rules}
 use Rattle.std.specs.Prelude.{Option, None, Some, Result, Ok, Err, IfErr, IfOk, IsErr, IsOk, OnOk}
 use Rattle.std.specs.Option.{IfSome}
 use Rattle.std.specs.Result.{is_err}
 use Rattle.hac_disk.specs.Contents.{Attaches}
 use Rattle.hac_disk.specs.Images.{IsQuiet}
 use Rattle.hac_disk.specs.Seen.{DiskSeen}
+use Rattle.hac_disk.proofs.Moments.{quiet_twice}
 use Rattle.hac_outside.specs.Causes.{ReportsFault}
 use Rattle.hac_model.specs.Run.Play.{Setting, new_setting}
 use Rattle.hac_model.specs.Tree.Valid.{IsValid}
@@ -122,16 +123,6 @@ loaded-usable told r opened is sound place = opened-usable told r opened is (int
     intact (Ok loaded) sound = sound.0
     intact (Err failed) sound = search rules
 
--- two calls that write nothing
-pub quiet-then : (old mid new : DiskSeen) → IsQuiet old mid → IsQuiet mid new → IsQuiet old new
-quiet-then old mid new first second = record {
-  same = second.same ∙ first.same;
-  images = λ c h. first.images c (second.images c h);
-  later = omega (arith, first.later, second.later);
-  past = λ t c low h. first.past t c low (second.past t c (omega (arith, low, first.later)) h);
-  keeps = λ t c low h. second.keeps t c (omega (arith, low, first.later)) (first.keeps t c low h);
-}
-
 err-value : (Q : Type 0) (r : Result Setting Status) → Q → IfErr r (λ status. Q)
 err-value Q (Ok z) q = search rules
 err-value Q (Err status) q = q
@@ -142,7 +133,7 @@ loaded-quiet None fresh old new quiet = search rules
 loaded-quiet (Some file) fresh old new quiet = err-value (IsQuiet old new) (opening_outcome fresh (held file)) quiet
 
 one-made : (kept : Result Setting ℕ) (old mid new : DiskSeen) → IsQuiet old mid → (IsOk kept → IsQuiet mid new) → IfErr (opening_outcome true kept) (λ status. IsQuiet old new)
-one-made (Ok setting) old mid new first second = quiet-then old mid new first (second refl)
+one-made (Ok setting) old mid new first second = quiet_twice old mid new first (second refl)
 one-made (Err at) old mid new first second = search rules
 
 -- a store was to be made where there is one

@@ -1,10 +1,11 @@
 use Rattle.std.proofs.Common.{◌≡◌, sym, subst, rules, IfSome, Ok, Err}
+use Rattle.hac_disk.proofs.Moments.{quiet_twice}
 use Rattle.hac_store.specs.Faults.{of_root}
 use Rattle.hac_store.specs.Held.{held}
 use Rattle.hac_store.specs.Stores.{Opens}
 use Rattle.hac_store.specs.declared.areas.Begun.{Begun}
 use Rattle.hac_store.proofs.LoadLemmas.{loaded-log, loaded-none, loaded-ready}
-use Rattle.hac_store.proofs.ReadLemmas.{opens-ok, opens-rootless, opens-stop, opens-unbegun, quiet-twice, read-area}
+use Rattle.hac_store.proofs.ReadLemmas.{opens-ok, opens-rootless, opens-stop, opens-unbegun, read-area}
 use Rattle.hac_store.proofs.opening.read_unlinked.Goals as goal
 
 pub returns-in_err-root-clause-loads : goal.returns-in_err-root-clause-loads
@@ -50,8 +51,8 @@ returns-in-Err-clause-loads g c =
       state = opens-stop seen c.in_ok-root.root c.read_log.new.replay c.in-Err.fault c.in_ok-root.ensures.root
           (read-area (Err c.in-Err.fault) seen c.in_ok-root.root.start begun c.read_log.new.replay begins reads);
       place = search rules;
-      quiet = quiet-twice (g.D.Disk.seen c.args.disk.now) (g.D.Disk.seen c.roots.new.disk) (g.D.Disk.seen c.read_log.new.disk) c.roots.ensures.quiet
-          (quiet-twice (g.D.Disk.seen c.roots.new.disk) (g.D.Disk.seen c.begin.new.disk) (g.D.Disk.seen c.read_log.new.disk) c.begin.ensures.quiet c.in-Err.ensures.quiet);
+      quiet = quiet_twice (g.D.Disk.seen c.args.disk.now) (g.D.Disk.seen c.roots.new.disk) (g.D.Disk.seen c.read_log.new.disk) c.roots.ensures.quiet
+          (quiet_twice (g.D.Disk.seen c.roots.new.disk) (g.D.Disk.seen c.begin.new.disk) (g.D.Disk.seen c.read_log.new.disk) c.begin.ensures.quiet c.in-Err.ensures.quiet);
       kind = search rules;
       names = search rules;
       reported = search rules;
@@ -70,8 +71,8 @@ returns-in-Ok-clause-loads g c =
       state = opens-ok seen c.in_ok-root.root c.read_log.new.replay c.in-Ok.end c.in_ok-root.ensures.root
           (read-area (Ok c.in-Ok.end) seen c.in_ok-root.root.start begun c.read_log.new.replay begins reads);
       place = search rules;
-      quiet = quiet-twice (g.D.Disk.seen c.args.disk.now) (g.D.Disk.seen c.roots.new.disk) (g.D.Disk.seen c.read_log.new.disk) c.roots.ensures.quiet
-          (quiet-twice (g.D.Disk.seen c.roots.new.disk) (g.D.Disk.seen c.begin.new.disk) (g.D.Disk.seen c.read_log.new.disk) c.begin.ensures.quiet c.in-Ok.ensures.quiet);
+      quiet = quiet_twice (g.D.Disk.seen c.args.disk.now) (g.D.Disk.seen c.roots.new.disk) (g.D.Disk.seen c.read_log.new.disk) c.roots.ensures.quiet
+          (quiet_twice (g.D.Disk.seen c.roots.new.disk) (g.D.Disk.seen c.begin.new.disk) (g.D.Disk.seen c.read_log.new.disk) c.begin.ensures.quiet c.in-Ok.ensures.quiet);
       kind = search rules;
       names = search rules;
       reported = search rules;

@@ -2,6 +2,7 @@ use Rattle.std.proofs.Common.{◌≡◌, ℕ, ◌+◌, ◌≤◌, List, subst, s
 use Rattle.std.specs.Prelude.{Err, IfOk, IsErr, IsOk, OnOk, Option}
 use Rattle.std.specs.Option.{IfSome}
 use Rattle.hac_disk.specs.Images.{IsQuiet}
+use Rattle.hac_disk.proofs.Moments.{quiet_twice}
 use Rattle.hac_model.specs.Run.Play.{Setting, new_setting}
 use Rattle.hac_store.specs.Held.{held}
 use Rattle.hac_store.specs.Loading.{loading}
@@ -11,7 +12,7 @@ use Rattle.hac_store.specs.declared.fault.StoreFault.TheVariants as fault
 use Rattle.hac_store.specs.Stores.{Stands}
 use Rattle.command_line.specs.Words.{asked_of}
 use Rattle.hac_top.proofs.OpenedLemmas.{opens-attached, opens-new, opens-quiet}
-use Rattle.hac_top.proofs.OpeningLemmas.{attach-then, loaded-opened, loaded-quiet, loaded-stands, loaded-usable, made-opened, made-quiet, made-stands, made-usable, opened-faults, quiet-then, where-fine}
+use Rattle.hac_top.proofs.OpeningLemmas.{attach-then, loaded-opened, loaded-quiet, loaded-stands, loaded-usable, made-opened, made-quiet, made-stands, made-usable, opened-faults, where-fine}
 use Rattle.hac_top.proofs.opening.open_store.Goals as goal
 
 pub returns-then-is_err-clause-any_moment : goal.returns-then-is_err-clause-any_moment
@@ -76,7 +77,7 @@ returns-else-options-clause-stands g c =
 pub returns-else-options-clause-quiet : goal.returns-else-options-clause-quiet
 returns-else-options-clause-quiet g c =
     loaded-quiet (g.D.Disk.seen c.args.disk.now).contents c.args.options.now.fresh (g.D.Disk.seen c.args.disk.now) (g.D.Disk.seen c.load.new.disk)
-    (quiet-then (g.D.Disk.seen c.args.disk.now) (g.D.Disk.seen c.attach.new.self) (g.D.Disk.seen c.load.new.disk) c.attach.ensures.quiet c.load.ensures.loads.quiet)
+    (quiet_twice (g.D.Disk.seen c.args.disk.now) (g.D.Disk.seen c.attach.new.self) (g.D.Disk.seen c.load.new.disk) c.attach.ensures.quiet c.load.ensures.loads.quiet)
 
 pub returns-else-options-clause-attached : goal.returns-else-options-clause-attached
 returns-else-options-clause-attached g c =

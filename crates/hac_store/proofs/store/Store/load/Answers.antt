@@ -1,12 +1,12 @@
 use Rattle.std.proofs.Common.{subst, ◌∙◌, rules}
 use Rattle.std.specs.Prelude.{◌+◌, ◌≤◌, IfSome, List, Ok, Option, ℕ}
+use Rattle.hac_disk.proofs.Moments.{quiet_twice}
 use Rattle.hac_model.specs.Tree.Costs.{opening}
 use Rattle.hac_store.specs.Held.{held}
 use Rattle.hac_store.specs.Loading.{loading}
 use Rattle.hac_store.specs.Stores.{Opens}
 use Rattle.hac_store.proofs.CreateLemmas.{loaded-stands}
 use Rattle.hac_store.proofs.LinkedLemmas.{linked-asked, linked-bears, linked-kind, linked-opens, linked-settled}
-use Rattle.hac_store.proofs.ReadLemmas.{quiet-twice}
 use Rattle.hac_store.proofs.store.Store.load.Goals as goal
 
 pub returns-in-Ok-clause-stands : goal.returns-in-Ok-clause-stands
@@ -27,7 +27,7 @@ returns-in-Ok-clause-loads g c =
     record {
       state = linked-opens c.linked.result unlinked c.linked.ensures.store c.linked.ensures.memory told (subst (λ (seen : Option (List ℕ)). IfSome seen (λ file. Opens (Ok unlinked) (held file))) was read.state);
       place = linked-bears c.linked.result unlinked c.linked.ensures.store c.linked.ensures.memory (seen c.read_unlinked.new.disk) read.place;
-      quiet = quiet-twice (seen c.args.disk.now) (seen c.sync.new.self) (seen c.read_unlinked.new.disk) c.sync.ensures.quiet read.quiet;
+      quiet = quiet_twice (seen c.args.disk.now) (seen c.sync.new.self) (seen c.read_unlinked.new.disk) c.sync.ensures.quiet read.quiet;
       kind = linked-kind c.linked.result unlinked c.linked.ensures.store c.linked.ensures.memory;
       names = read.names ∙ c.sync.ensures.attached;
       reported = search rules;
