@@ -18,13 +18,6 @@ pub fn counts_after(kept: &KeptState, event: &Event) -> Counts
     tree_counts::counts_after(kept.tree(), event)
 }
 
-/// The version of the state's store.
-pub fn version(kept: &KeptState) -> Version
-    ensures { result ≡ kept.now.state.version }
-{
-    kept.tree().version()
-}
-
 /// Denies what exceeds a limit, by the first such limit.
 pub fn within(limits: &[Limit]) -> Result<(), Deny>
     ensures { Passes result (option_map Refusal.Limit (first_passed limits.now)) }

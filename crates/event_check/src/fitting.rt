@@ -10,7 +10,7 @@ ghost use Rattle.hac_model.specs.Tree.Limits.{is_text};
 ghost use Rattle.event_check.specs.Fitting.{FitsAs, asks_spaces, passes_none, prohibits_found};
 
 use crate::asking::may_ask;
-use crate::counting::{counts_after, version};
+use crate::counting::counts_after;
 use crate::mounting::{may_mount, may_sync};
 use crate::told::are_all_told;
 use file_tree::Tree;
@@ -19,6 +19,7 @@ use hac_model::{
     Version, first_passed,
 };
 use hac_names::{has_long_part, is_bad, is_name, is_space_name};
+use kept_lookups::version;
 use kept_state::KeptState;
 use std::alloc::Global;
 use tree_answers::{is_unreferenced, may_mark};
@@ -244,14 +245,5 @@ fn may_go(tree: &Tree, entry: Number, dir: Number, name: &Name) -> bool
     tree.has_entry(entry)
         && !tree.is_document(entry)
         && is_free(tree, dir, name)
-        && !is_inside(tree, dir, entry)
-}
-
-/// Whether a directory is an entry, or is below it. It goes up from the directory.
-pub fn is_inside(tree: &Tree, dir: Number, entry: Number) -> bool
-    requires dir { IsTrue (is_live tree.now.state.entries dir) }
-    requires entry { IsTrue (is_live tree.now.state.entries entry) }
-    ensures { result ≡ is_inside tree.now.state dir entry }
-{
-    dir == entry || tree.is_below(dir, entry)
+        && !tree.is_inside(dir, entry)
 }

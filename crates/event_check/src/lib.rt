@@ -10,5 +10,5 @@ mod mounting;
 mod telling;
 mod told;
 
-pub use counting::{counts_after, version, within, within_all};
-pub use fitting::{fits, is_inside};
+pub use counting::{counts_after, within, within_all};
+pub use fitting::fits;

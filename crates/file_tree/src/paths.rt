@@ -3,6 +3,7 @@ ghost use Rattle.std.specs.Prelude.{◌≡◌, ◌==◌, ◌++◌, map, reverse,
 ghost use Rattle.std.specs.List.{list_any};
 ghost use Rattle.hac_model.specs.Tree.{ancestors, extends, path_of};
 ghost use Rattle.hac_model.specs.Tree.{is_live};
+ghost use Rattle.hac_model.specs.Tree.Events.{is_inside};
 
 use crate::tree::Tree;
 use hac_model::{Memory, Number, PATH_LIMIT, Path};
@@ -41,6 +42,15 @@ impl Tree {
     {
         self.know_layout();
         self.leads_up(PATH_LIMIT + 1, item, dir)
+    }
+
+    /// Whether what has a number is an entry, or is below it. It goes up from the number.
+    pub fn is_inside(&self, number: Number, entry: Number) -> bool
+        requires number { IsTrue (is_live self.now.state.entries number) }
+        requires entry { IsTrue (is_live self.now.state.entries entry) }
+        ensures { result ≡ is_inside self.now.state number entry }
+    {
+        number == entry || self.is_below(number, entry)
     }
 
     /// Whether at most `steps` steps over parents lead from an entry to a directory.

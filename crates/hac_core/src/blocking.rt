@@ -9,7 +9,6 @@ ghost use Rattle.hac_core.specs.Blocking.{link_cause, tree_cause};
 
 use crate::marking::{require_link, require_marked, require_not_permanent, require_unreferenced};
 use crate::sessions::{require_idle, require_place};
-use event_check::is_inside;
 use file_tree::Tree;
 use hac_model::{Deny, Number, Place, Refusal, Resolved};
 use kept_links::LinkedState;
@@ -179,7 +178,7 @@ fn require_outside(tree: &Tree, entry: Number, place: &Place) -> Result<(), Deny
     let Place::Free { dir, .. } = place else {
         return Ok(());
     };
-    if is_inside(tree, *dir, entry) {
+    if tree.is_inside(*dir, entry) {
         return Err(Deny::Refused(Refusal::Under(tree.path_of(entry)?)));
     }
     Ok(())

@@ -12,8 +12,9 @@ use crate::cycles::require_acyclic;
 use crate::drafts::{Change, Draft, Known};
 use crate::events::{Made, made_by};
 use crate::questions::asks_of;
-use event_check::{counts_after, version, within};
+use event_check::{counts_after, within};
 use hac_model::{Asks, Deny, Event, Resolved};
+use kept_lookups::version;
 use kept_state::KeptState;
 use std::alloc::Global;
 

@@ -12,8 +12,9 @@ ghost use Rattle.hac_core.specs.Settling.{answered, keeping_cause, limits_cause,
 ghost use Rattle.tree_counts.specs.Seated.{is_seated};
 
 use crate::drafts::{Change, Settled};
-use event_check::{counts_after, version, within_all};
+use event_check::{counts_after, within_all};
 use hac_model::{Answers, Deny, Event, LimitWord, Memory, Name, Number, Query, Refusal};
+use kept_lookups::version;
 use kept_state::KeptState;
 use std::alloc::Global;
 use tree_answers::{mounting, syncing, told_for};

@@ -12,12 +12,13 @@ ghost use Rattle.kept_links.specs.Items.{is_other, is_passed_over, numbers_aroun
 ghost use Rattle.kept_links.specs.Items.{reach_of};
 ghost use Rattle.kept_links.specs.Transition.{IsTransition, before, event_of};
 
-use crate::lookups::{is_directory, is_inside, is_semantic};
 use crate::transition::Transition;
 use hac_model::{Event, Mark, Memory, Number};
+use kept_lookups::{
+    is_directory, is_document, is_inside, is_item, is_semantic, next_dirty, next_number, parent_of,
+};
 use kept_state::KeptState;
 use reeval::Layout;
-use reindex::lookups::{is_document, is_item, next_dirty, next_number, parent_of};
 use std::alloc::Global;
 
 /// The items that an event may touch.

@@ -5,7 +5,6 @@
 mod coming;
 mod items;
 mod linked;
-mod lookups;
 mod news;
 mod outlook;
 mod tasks;

@@ -134,16 +134,6 @@ module _ (last : ℕ) (s : State) where
 abbrev pub text_of : State → ℕ → Option (List ℕ)
 text_of s n = option_and_then text_in (body_at s.entries n)
 
--- nothing else has one
-pub no-text : (o : Option Body) → option_map_or is_file o false ≡ false → option_and_then text_in o ≡ None
-no-text None other = refl
-no-text (Some (File text dirty shown)) other = absurd cc
-no-text (Some Dir) other = refl
-no-text (Some (Symlink target)) other = refl
-no-text (Some (Semantic query permanent prohibited)) other = refl
-no-text (Some (Mount space answers)) other = refl
-no-text (Some Document) other = refl
-
 -- by the number of the entry that is looked up
 numbered : {X : Type 0} (es : List Entry) (n : ℕ) (old : ℕ → Option Entry → X) (new : Option Entry → X) → ((k : ℕ) → old k None ≡ new None) → ((e : Entry) → old e.number (Some e) ≡ new (Some e)) → old n (entry_at es n) ≡ new (entry_at es n)
 numbered es n old new none some = at (entry_at es n) refl

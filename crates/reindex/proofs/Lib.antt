@@ -13,4 +13,3 @@ pub mod AnewLemmas
 pub mod MoveLemmas
 pub mod GoneLemmas
 pub mod EventLemmas
-pub mod RootLemmas

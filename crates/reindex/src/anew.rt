@@ -9,13 +9,13 @@ ghost use Rattle.reindex.specs.Anew.{AreAllNews, AreLinksBelow, LendsNothing, un
 ghost use Rattle.reindex.specs.Ways.{IsWayOf};
 
 use crate::fitted::Fitted;
-use crate::indexing::{Indexing, shown_of};
-use crate::lookups::{is_document, is_item};
+use crate::indexing::Indexing;
 use crate::texts::stops_fitting;
 use crate::unjudged::Unjudged;
 use crate::ways::{FEW_STOPS, Way};
 use hac_model::{Memory, Number};
 use hac_outside::Steps;
+use kept_lookups::{is_document, is_item, shown_of};
 use kept_state::KeptState;
 use link_kinds::Links;
 use reeval::{Blank, Change, Layout, Stop, Verdict, apply, latest, reserve, settle};

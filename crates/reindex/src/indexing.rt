@@ -7,11 +7,10 @@ ghost use Rattle.hac_model.specs.Tree.Links.{is_unmarked, kept_at, parent_of, sh
 ghost use Rattle.hac_model.specs.Tree.{body_at, is_document_at, text_in};
 ghost use Rattle.reindex.specs.Steps.{indexed_through};
 
-use crate::lookups::{is_document, is_item, parent_of, query_at};
-use file_tree::Tree;
 use hac_model::{Number, Query, Term};
 use hac_outside::Steps;
 use hac_words::has_term;
+use kept_lookups::{is_below, is_document, is_item, parent_of, query_at, shown_of, text_of};
 use kept_state::KeptState;
 use reeval::Layout;
 use std::sync::ledger::Ledger;
@@ -118,49 +117,4 @@ fn is_unmarked(kept: &KeptState, dir: Number, item: Number) -> bool
     ensures { result ≡ is_unmarked kept.now.state dir item }
 {
     kept.mark(dir, item).is_unlinked()
-}
-
-/// Whether an item is stored below a directory, at any depth.
-pub(crate) fn is_below(kept: &KeptState, item: Number, dir: Number) -> bool
-    ensures { result ≡ is_below kept.now.state dir item }
-{
-    is_below_in(kept.tree(), item, dir)
-}
-
-/// The same by the tree alone. All items are below the root.
-fn is_below_in(tree: &Tree, item: Number, dir: Number) -> bool
-    ensures { result ≡ is_below tree.now.state dir item }
-{
-    tree.know_layout();
-    if dir == Number::ROOT {
-        return tree.is_item(item);
-    }
-    tree.is_item(item) && tree.is_directory(dir) && tree.is_below(item, dir)
-}
-
-/// The text of an item as it was last indexed.
-pub fn shown_of(kept: &KeptState, item: Number) -> Option<&[u8]>
-    ensures { option_copied result ≡ shown_of kept.now.state item }
-{
-    kept.tree().shown(item)
-}
-
-/// The text of a file.
-fn text_of(kept: &KeptState, file: Number) -> Option<&[u8]>
-    ensures { option_copied result ≡ option_and_then text_in
-        (body_at kept.now.state.entries file) }
-{
-    let tree = kept.tree();
-    if tree.is_file(file) {
-        Some(tree.text(file))
-    } else {
-        None
-    }
-}
-
-/// What a directory depends on.
-fn depends(kept: &KeptState, dir: Number) -> &[Number]
-    ensures { result.now ≡ depends kept.now.state dir }
-{
-    kept.graph().edges(dir)
 }

@@ -8,7 +8,6 @@ mod ahead;
 mod anew;
 mod fitted;
 mod indexing;
-pub mod lookups;
 mod moves;
 mod past;
 mod steps;
@@ -17,7 +16,6 @@ mod unjudged;
 mod ways;
 
 pub use anew::{finds, links_of};
-pub use indexing::shown_of;
 pub use moves::{delta_of_gone, delta_of_moved};
 pub use past::Past;
 pub use steps::delta_of_steps;

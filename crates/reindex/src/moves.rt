@@ -14,11 +14,11 @@ ghost use Rattle.reindex.specs.Moves.{OnlyMoves, crosses, place_tells};
 ghost use Rattle.reindex.specs.Steps.{AreSettled};
 ghost use Rattle.reindex.specs.Ways.{IsWayOf, begun_at, needed};
 
-use crate::indexing::is_below;
 use crate::past::Past;
 use crate::ways::Way;
 use hac_model::{Memory, Number};
 use hac_outside::Steps;
+use kept_lookups::is_below;
 use kept_state::KeptState;
 use reeval::{Before, Change, Layout, Stop, Verdict, settle};
 use std::alloc::Global;

@@ -19,12 +19,13 @@ ghost use Rattle.reindex.specs.Ways.{IsWayOf};
 
 use crate::ahead::StepsAhead;
 use crate::fitted::Fitted;
-use crate::indexing::{Indexing, shown_of};
+use crate::indexing::Indexing;
 use crate::past::Past;
 use crate::texts::{stops_changed, stops_fitting};
 use crate::ways::{FEW_STOPS, Way, stops_of_way};
 use hac_model::{Memory, Number};
 use hac_outside::Steps;
+use kept_lookups::shown_of;
 use kept_state::KeptState;
 use link_kinds::Links;
 use reeval::{Change, Layout, Stop, settle_all};

@@ -3,9 +3,9 @@ ghost use Rattle.std.specs.Prelude.{◌≡◌, ◌&&◌, ◌||◌, ℕ};
 ghost use Rattle.hac_model.specs.Tree.Links.{is_below, is_item, is_permanent, is_semantic};
 ghost use Rattle.reeval.specs.Judging.{no_verdict, verdict_of};
 
-use crate::indexing::{is_added, is_below};
-use crate::lookups::query_at;
+use crate::indexing::is_added;
 use hac_model::Number;
+use kept_lookups::{is_below, query_at};
 use kept_state::KeptState;
 use reeval::{Before, Verdict};
 use std::marker::Model;

@@ -14,16 +14,6 @@ use Rattle.hac_model.specs.declared.states.State.{State}
 use Rattle.file_tree.specs.Answers.{numbers_of}
 use Rattle.file_tree.proofs.OrderLemmas.{children-found}
 
--- what is no file has no text
-pub no-text : (o : Option Body) → option_map_or is_file o false ≡ false → option_and_then text_in o ≡ None
-no-text None other = refl
-no-text (Some (File text dirty shown)) other = absurd cc
-no-text (Some Dir) other = refl
-no-text (Some (Symlink target)) other = refl
-no-text (Some (Semantic query permanent prohibited)) other = refl
-no-text (Some (Mount space answers)) other = refl
-no-text (Some Document) other = refl
-
 -- the line of a number
 abbrev pub line_at : State → ℕ → List ℕ
 line_at s n = option_map_or entry_line (entry_at s.entries n) []

@@ -6,10 +6,10 @@ ghost use Rattle.hac_model.specs.Run.Asks.{documents_named, query_asks, told_for
 ghost use Rattle.file_tree.specs.Answers.{numbers_of};
 ghost use Rattle.tree_answers.specs.Asked.{mount_of, questions, questions_about, questions_at};
 
-use crate::lookups::is_mount;
 use crate::numbering;
 use hac_model::{Memory, Name, Number, Query, Seq, Term};
 use kept_facts::ordered_terms;
+use kept_lookups::is_mount;
 use kept_state::KeptState;
 use std::alloc::Global;
 

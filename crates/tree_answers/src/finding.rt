@@ -1,9 +1,13 @@
 //! What directories find and provide, by the links that are kept.
-ghost use Rattle.std.specs.Prelude.{◌≡◌, if◌then◌else◌};
-ghost use Rattle.hac_model.specs.Tree.Links.{column, has, kind, links, provide, transient_at};
+ghost use Rattle.std.specs.Prelude.{◌≡◌, if◌then◌else◌, is_some};
+ghost use Rattle.hac_model.specs.Tree.Links.{column, has, kind, links, provide, shown_of};
+ghost use Rattle.hac_model.specs.Tree.Links.{transient_at};
+ghost use Rattle.tree_answers.specs.Finding.{is_judged_item};
 
 use hac_model::{Kind, Member, Number};
 use kept_links::LinkedState;
+use kept_lookups::{is_document, is_item, shown_of};
+use kept_state::KeptState;
 use scope_rules::{has_found, provides};
 
 /// What directories provide.
@@ -59,4 +63,18 @@ fn found_kind(linked: &LinkedState, dir: Number, item: Number) -> Kind
     } else {
         Kind::Unlinked
     }
+}
+
+/// Whether a number is that of an item that queries judge: a document, or a file that was indexed.
+pub fn is_judged_item(kept: &KeptState, number: Number) -> bool
+    ensures { result ≡ is_judged_item kept.now.state number }
+{
+    is_item(kept, number) && (is_document(kept, number) || is_shown(kept, number))
+}
+
+/// Whether an item was indexed.
+fn is_shown(kept: &KeptState, item: Number) -> bool
+    ensures { result ≡ is_some (shown_of kept.now.state item) }
+{
+    matches!(shown_of(kept, item), Some(_))
 }

@@ -12,7 +12,6 @@ mod lines_of_counts;
 mod lines_of_entries;
 mod lines_of_links;
 mod lines_of_queries;
-mod lookups;
 mod marking;
 mod mount_events;
 mod numbering;

@@ -8,10 +8,10 @@ ghost use Rattle.hac_model.specs.Tree.{entry_at};
 ghost use Rattle.hac_model.specs.declared.states.Body.{Body};
 ghost use Rattle.file_tree.specs.Answers.{entry_kind};
 
-use crate::lookups::{is_document, target_of, text_of};
 use file_tree::{EntryKind, Tree};
 use hac_model::{Answers, Memory, Name, Number, Text};
 use hac_names::{print_path, print_text};
+use kept_lookups::{is_document, target_of, text_of};
 use kept_state::KeptState;
 use std::alloc::Global;
 

@@ -14,13 +14,13 @@ ghost use Rattle.tree_answers.specs.NextLinks.{lesser, next_linked};
 ghost use Rattle.tree_answers.specs.Told.{is_found_told};
 
 use crate::asking::{questions_answered, told_by};
-use crate::finding::kind_of;
-use crate::lookups::{is_document, is_judged_item};
+use crate::finding::{is_judged_item, kind_of};
 use crate::telling::{Told, satisfies_told};
 use hac_model::{Kind, Memory, Name, Number, Query, Seq};
 use hac_names::print_path;
 use hac_outside::Steps;
 use kept_links::LinkedState;
+use kept_lookups::is_document;
 use kept_state::KeptState;
 use std::alloc::Global;
 use std::sync::ledger::Ledger;

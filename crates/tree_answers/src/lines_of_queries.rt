@@ -6,8 +6,8 @@ ghost use Rattle.hac_model.specs.Query.QueryText.{query_text, referred_by};
 ghost use Rattle.hac_model.specs.Tree.{path_of};
 ghost use Rattle.tree_answers.specs.Paths.{AddsPaths};
 
-use crate::lookups::query_at;
 use hac_model::{Memory, Name, Node, Number, Query};
+use kept_lookups::query_at;
 use kept_state::KeptState;
 use query_text::{Paths, print};
 use std::alloc::Global;

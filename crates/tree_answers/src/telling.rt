@@ -8,10 +8,10 @@ ghost use Rattle.tree_answers.specs.Asked.{was_told};
 
 use crate::asking::Question;
 use crate::finding::Sight;
-use crate::lookups::{is_document, parent_of};
 use hac_model::{Number, Query, Seq, Term};
 use hac_outside::Steps;
 use kept_links::LinkedState;
+use kept_lookups::{is_document, parent_of};
 use query_eval::{Atoms, judge};
 use std::sync::ledger::Ledger;
 
