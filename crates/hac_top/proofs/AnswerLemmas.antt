@@ -267,11 +267,15 @@ module _ (old mid new : DiskSeen) (before store after : Seen) (turn : Turn) (rep
 
 -- A line, whose turn is known where the contents of the spaces are told.
 
--- no reply was told
-pub item-stops : (old new : DiskSeen) (spaces left : SpacesSeen) (before after : Seen) (tick : ℕ) (item : Item) (sink : SinkSeen) (was now : Bool) (probes probes_now : ℕ) (status : Status) →
-    StoresItem old new spaces left before after item probes probes_now (Err status) →
-    AnswersItems old new spaces left tick before after sink sink (item ∷ []) was now probes probes_now (Err status)
-item-stops old new spaces left before after tick item sink was now probes probes_now status went =
+-- its turn was answered, or its answer stopped
+item-answers : (old mid new : DiskSeen) (spaces left : SpacesSeen) (before store after : Seen) (tick : ℕ) (item : Item) (sink sink_after : SinkSeen) (was now : Bool) (probes probes_told probes_now : ℕ)
+    (stored_item : Result Reply Status) (result : Result (Unit {0}) Status) (went : StoresItem old mid spaces left before store item probes probes_told stored_item) →
+    probes_now ≤ probes + (answering_line before.setting.state item + costs before.setting.state went.turn.events + costs went.turn.after.state (steps_behind tick went.turn.after)) →
+    OnOk result (now ≡ (was || has_refusal (ticked tick went.turn ∷ []))) →
+    OnOk result (AnswersLine old new before after sink sink_after (ticked tick went.turn ∷ [])) →
+    IfErr result (StopsAnswer old new before.setting sink sink_after (ticked tick went.turn ∷ [])) →
+    AnswersItems old new spaces left tick before after sink sink_after (item ∷ []) was now probes probes_now result
+item-answers old mid new spaces left before store after tick item sink sink_after was now probes probes_told probes_now stored_item result went asks refused ok err =
     record {
       met = went.fault ∷ [];
       asked = went.asked;
@@ -280,11 +284,19 @@ item-stops old new spaces left before after tick item sink was now probes probes
       leads = ticked-leads tick before.setting went.turn went.bare.leads;
       told =
           told-alike (λ contents. IsTurnOf contents went.fault before.setting item went.turn) (λ contents. AreTurns contents (went.fault ∷ []) tick before.setting (item ∷ []) (ticked tick went.turn ∷ []) probes probes_now) spaces.contents
-          (λ contents of. line-turns contents went.fault tick before.setting item went.turn probes probes_now of went.bare (omega (arith, went.asks))) went.told;
-      refused = tt;
-      ok = tt;
-      err = command-stops old new before after tick went.turn sink status went.bare.own went.stores;
+          (λ contents of. line-turns contents went.fault tick before.setting item went.turn probes probes_now of went.bare asks) went.told;
+      refused = refused;
+      ok = ok;
+      err = err;
     }
+
+-- no reply was told
+pub item-stops : (old new : DiskSeen) (spaces left : SpacesSeen) (before after : Seen) (tick : ℕ) (item : Item) (sink : SinkSeen) (was now : Bool) (probes probes_now : ℕ) (status : Status) →
+    StoresItem old new spaces left before after item probes probes_now (Err status) →
+    AnswersItems old new spaces left tick before after sink sink (item ∷ []) was now probes probes_now (Err status)
+item-stops old new spaces left before after tick item sink was now probes probes_now status went =
+    item-answers old new new spaces left before after after tick item sink sink was now probes probes_now probes_now (Err status) (Err status) went (omega (arith, went.asks)) tt tt
+    (command-stops old new before after tick went.turn sink status went.bare.own went.stores)
 
 module _ (old mid new : DiskSeen) (spaces left : SpacesSeen) (before store after : Seen) (reply : Reply) (sink sink_after : SinkSeen) (tick : ℕ) (item : Item) (probes probes_told probes_now : ℕ)
     (went : StoresItem old mid spaces left before store item probes probes_told (Ok reply)) where
@@ -305,19 +317,8 @@ module _ (old mid new : DiskSeen) (spaces left : SpacesSeen) (before store after
       probes_now ≤ probes_told + costs store.setting.state (steps_behind tick store.setting) →
       AnswersItems old new spaces left tick before after sink sink_after (item ∷ []) was now probes probes_now result
   item-told was now result told_refused answers stops asks =
-      record {
-        met = went.fault ∷ [];
-        asked = went.asked;
-        answered = ticked tick went.turn ∷ [];
-        few = omega arith;
-        leads = ticked-leads tick before.setting went.turn went.bare.leads;
-        told =
-            told-alike (λ contents. IsTurnOf contents went.fault before.setting item went.turn) (λ contents. AreTurns contents (went.fault ∷ []) tick before.setting (item ∷ []) (ticked tick went.turn ∷ []) probes probes_now) spaces.contents
-            (λ contents of. line-turns contents went.fault tick before.setting item went.turn probes probes_now of went.bare all-asks) went.told;
-        refused = line-refused tick went.turn reply was now result went.stores.ok.reply_is told_refused;
-        ok = line-told result answers;
-        err = line-stops-behind result stops;
-      }
+      item-answers old mid new spaces left before store after tick item sink sink_after was now probes probes_told probes_now (Ok reply) result went all-asks
+      (line-refused tick went.turn reply was now result went.stores.ok.reply_is told_refused) (line-told result answers) (line-stops-behind result stops)
     where
       all-asks : probes_now ≤ probes + (answering_line before.setting.state item + costs before.setting.state went.turn.events + costs went.turn.after.state (steps_behind tick went.turn.after))
       all-asks =
