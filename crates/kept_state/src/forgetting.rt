@@ -1,7 +1,6 @@
 //! Marks on entries that go with a mount, or from it. No tree changes.
 ghost use Rattle.std.specs.Prelude.{IsTrue};
 ghost use Rattle.hac_model.specs.Tree.Mounting.{do_names_rise, is_gone, is_of_mount, is_such_at};
-ghost use Rattle.hac_model.specs.Tree.Valid.{IsLayout};
 ghost use Rattle.hac_model.specs.Tree.{is_mount_at};
 ghost use Rattle.link_kinds.specs.Seen.{SameLinks};
 ghost use Rattle.kept_state.specs.Forgetting.{ForgetsSuch};
@@ -19,7 +18,7 @@ pub fn forget_mount(marks: &mut Links, tree: &Tree, mount: Number)
     ensures sets { SameLinks marks.old marks.new }
 {
     marks.drop_item(mount);
-    know_layout(tree);
+    tree.know_layout();
     let documents = tree.children(mount);
     'documents: for place in 0..documents.len() {
         marks.drop_item(documents.at(place));
@@ -34,7 +33,7 @@ pub fn forget_gone(marks: &mut Links, tree: &Tree, mount: Number, names: &[Name]
         marks.old marks.new }
     ensures sets { SameLinks marks.old marks.new }
 {
-    know_layout(tree);
+    tree.know_layout();
     let documents = tree.children(mount);
     'documents: for place in 0..documents.len() {
         let document = documents.at(place);
@@ -42,11 +41,4 @@ pub fn forget_gone(marks: &mut Links, tree: &Tree, mount: Number, names: &[Name]
             marks.drop_item(document);
         }
     }
-}
-
-/// The entries of a tree fit one another. This does nothing.
-fn know_layout(tree: &Tree)
-    ensures { IsLayout tree.now.state }
-{
-    let _next = tree.next_number();
 }

@@ -11,7 +11,7 @@ use Rattle.kept_state.proofs.forgetting.forget_gone.Goals.{then-not-has_name, el
 pub documents-init : goal.documents-init
 documents-init c =
     let s = c.args.tree.now.state in
-    forgetting-begins s c.know_layout.ensures c.args.mount (is_such_at (is_gone c.args.mount c.args.names.now) s.entries) c.children-documents.result c.args.marks.now c.children-documents.ensures.numbers (gone-within s c.args.mount c.args.names.now)
+    forgetting-begins s c.know_layout.ensures.layout c.args.mount (is_such_at (is_gone c.args.mount c.args.names.now) s.entries) c.children-documents.result c.args.marks.now c.children-documents.ensures.numbers (gone-within s c.args.mount c.args.names.now)
 
 pub documents-preserved : goal.documents-preserved
 documents-preserved c =
@@ -26,7 +26,7 @@ documents-preserved c =
     let before : IsForgetting s mount test (number ∷ rest) c.args.marks.now c.documents.marks =
     subst (λ (ns : List ℕ). IsForgetting s mount test ns c.args.marks.now c.documents.marks) (drop-next c.children-documents.result c.documents.place number inside is) c.documents.invariant in
     let told : test number ≡ not c.has_name.result =
-    gone-told s mount names c.know_layout.ensures c.requires.mount number c.name_of.result.now before.there.0 c.name_of.ensures ∙ ap not (sym (c.has_name.ensures c.requires.rise)) in
+    gone-told s mount names c.know_layout.ensures.layout c.requires.mount number c.name_of.result.now before.there.0 c.name_of.ensures ∙ ap not (sym (c.has_name.ensures c.requires.rise)) in
     elim c.if-not-has_name.branch [
       | then-not-has_name w ↦
           subst (λ (marks : Known). IsForgetting s mount test rest c.args.marks.now marks) (sym w.marks-is)

@@ -9,7 +9,7 @@ pub documents-init : goal.documents-init
 documents-init c =
     let s = c.args.tree.now.state in
     let mount = c.args.mount in
-    forgetting-begun s c.know_layout.ensures mount (is_such_at (is_of_mount mount) s.entries) c.children-documents.result c.args.marks.now c.drop_item.new.self c.children-documents.ensures.numbers
+    forgetting-begun s c.know_layout.ensures.layout mount (is_such_at (is_of_mount mount) s.entries) c.children-documents.result c.args.marks.now c.drop_item.new.self c.children-documents.ensures.numbers
     (of_mount-own s mount c.requires) (of_mount-within s mount) c.drop_item.ensures.lists c.drop_item.ensures.sets
 
 pub documents-preserved : goal.documents-preserved
