@@ -2,7 +2,7 @@
 //! events; a log may hold any.
 ghost use Rattle.std.specs.Prelude.{◌≡◌, ◌&&◌, false, length, IfOk, IsTrue};
 ghost use Rattle.hac_model.specs.Script.PathWords.{is_target};
-ghost use Rattle.hac_model.specs.Tree.{is_leaf_at, is_live};
+ghost use Rattle.hac_model.specs.Tree.{is_leaf_at};
 ghost use Rattle.hac_model.specs.Tree.Asking.{are_all_told};
 ghost use Rattle.hac_model.specs.Tree.Events.{can_have_mark, is_clear, is_free};
 ghost use Rattle.hac_model.specs.Tree.Events.{is_inside, is_made_holder, is_placed, may_ask};

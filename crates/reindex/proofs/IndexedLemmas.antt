@@ -10,7 +10,7 @@ use Rattle.hac_model.specs.Tree.Depends.{depends}
 use Rattle.hac_model.specs.Tree.Events.{apply, changed_at, changed_in, edited, indexed, next_dirty}
 use Rattle.hac_model.specs.Tree.Links.{answers_at, has, is_below, is_item, is_permanent, is_semantic, is_unmarked, kept_at, lenders, parent_of, permanent_at, prohibited_at, query_at, shown_of}
 use Rattle.hac_model.specs.Tree.Valid.{IsLayout, IsSound, NumbersRise}
-use Rattle.hac_model.specs.Tree.{answers_in, body_at, entry_at, is_directory, is_dirty, is_document, is_document_at, is_file, is_linkable, path_of, permanent_in, prohibited_in, query_in, shown_text, text_in}
+use Rattle.hac_model.specs.Tree.{answers_in, body_at, entry_at, is_directory, is_dirty, is_document, is_document_at, is_linkable, path_of, permanent_in, prohibited_in, query_in, shown_text, text_in}
 use Rattle.hac_model.specs.declared.events.Event.TheVariants.{Step}
 use Rattle.hac_model.specs.declared.states.Answer.{Answer}
 use Rattle.hac_model.specs.declared.states.Body.{Body}

@@ -1,10 +1,10 @@
 //! A state as it will be once files are indexed up to a number.
-ghost use Rattle.std.specs.Prelude.{◌≡◌, ◌&&◌, option_and_then};
+ghost use Rattle.std.specs.Prelude.{◌≡◌, ◌&&◌};
 ghost use Rattle.std.specs.Option.{option_copied};
 ghost use Rattle.hac_model.specs.Tree.Depends.{depends};
 ghost use Rattle.hac_model.specs.Tree.Links.{atom, has, is_below, is_item, is_permanent};
 ghost use Rattle.hac_model.specs.Tree.Links.{is_unmarked, kept_at, parent_of, shown_of};
-ghost use Rattle.hac_model.specs.Tree.{body_at, is_document_at, text_in};
+ghost use Rattle.hac_model.specs.Tree.{is_document_at};
 ghost use Rattle.reindex.specs.Steps.{indexed_through};
 
 use hac_model::{Number, Query, Term};
@@ -117,4 +117,11 @@ fn is_unmarked(kept: &KeptState, dir: Number, item: Number) -> bool
     ensures { result ≡ is_unmarked kept.now.state dir item }
 {
     kept.mark(dir, item).is_unlinked()
+}
+
+/// What a directory depends on.
+fn depends(kept: &KeptState, dir: Number) -> &[Number]
+    ensures { result.now ≡ depends kept.now.state dir }
+{
+    kept.graph().edges(dir)
 }

@@ -1,14 +1,12 @@
 -- What is in a directory, and what is in a file.
-use Rattle.std.proofs.Common.{◌≡◌, ℕ, zero, suc, ◌<◌, ◌≤◌, true, false, List, [], ◌∷◌, length, get_or, map, take, refl, ap, ◌∙◌, arith}
-use Rattle.std.specs.Prelude.{Option, Some, None, is_some, option_and_then}
+use Rattle.std.proofs.Common.{◌≡◌, ℕ, zero, suc, ◌<◌, ◌≤◌, true, List, [], ◌∷◌, length, get_or, map, take, refl, ap, ◌∙◌, arith}
+use Rattle.std.specs.Prelude.{Option, Some, is_some}
 use Rattle.std.specs.Option.{option_map_or}
 use Rattle.std.specs.List.{AllByRecursion}
 use Rattle.std.proofs.lemmas.List.{take_all}
 use Rattle.hac_model.specs.Tree.Listing.{children, entry_line}
-use Rattle.hac_model.specs.Tree.{entry_at, is_file, text_in}
+use Rattle.hac_model.specs.Tree.{entry_at}
 use Rattle.hac_model.specs.Tree.Valid.{IsLayout}
-use Rattle.hac_model.specs.declared.states.Body.{Body}
-use Rattle.hac_model.specs.declared.states.Body.TheVariants.{File, Dir, Symlink, Semantic, Mount, Document}
 use Rattle.hac_model.specs.declared.states.Entry.{Entry}
 use Rattle.hac_model.specs.declared.states.State.{State}
 use Rattle.file_tree.specs.Answers.{numbers_of}
