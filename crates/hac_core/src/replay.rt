@@ -12,10 +12,11 @@ ghost use Rattle.snapshots.specs.declared.reading.LoadFault.TheVariants as fault
 ghost use Rattle.event_check.specs.Fitting.{FitsAs, prohibits_found};
 
 use crate::machine::Machine;
-use event_check::{fits, version};
+use event_check::fits;
 use hac_model::{Counts, Event, Memory, Snapshot, Version};
 use hac_outside::Steps;
 use kept_links::UnlinkedState;
+use kept_lookups::version;
 use snapshots::LoadFault;
 use std::alloc::Global;
 use std::marker::Model;
