@@ -12,6 +12,7 @@ use Rattle.clap.specs.Faults.{bundle_step_fault, flags_fault, word_fault}
 use Rattle.clap.specs.Simple.{Shape, built}
 use Rattle.clap.specs.Walk.{Held, Row, Rule, Text, Waiting, idle, option, positional, plain_word, word_met}
 use Rattle.command_line.specs.Words.{hac}
+use Rattle.std.proofs.lemmas.Bool.{false_from_ne_true}
 
 -- the command as the library completes it, and its arguments
 abbrev pub top : Shape
@@ -121,21 +122,17 @@ cut (x ∷ xs) h = by (x == 61) refl h (cut xs)
     by true is one later = rw is (ap (λ y. y ∷ xs) (eqb-true x 61 is))
     by false is one later = ap (λ ys. x ∷ ys) (later one) ∙ sym (ap₂ (λ front back. front ++ 61 ∷ back) (before-on x xs is) (after-on x xs is))
 
-not-true : (b : Bool) → (b ≡ true → ⊥) → b ≡ false
-not-true true h = absurd (h refl)
-not-true false h = refl
-
 never-both : (b : Bool) → b ≡ not b → ⊥
 never-both true same = true≢false same
 never-both false same = true≢false (sym same)
 
 -- what a test tells apart isn't the same
 differ : (test : Text → Bool) (b : Bool) (xs ys : Text) → test xs ≡ b → test ys ≡ not b → bytes_eq xs ys ≡ false
-differ test b xs ys here there = not-true _ (λ same. never-both b (sym here ∙ ap test (same-bytes xs ys same) ∙ there))
+differ test b xs ys here there = false_from_ne_true _ (λ same. never-both b (sym here ∙ ap test (same-bytes xs ys same) ∙ there))
 
 differ-front : (test : Text → Bool) (b : Bool) (front xs : Text) → test xs ≡ b → ((value : Text) → test (front ++ value) ≡ not b) → bytes_eq (take 5 xs) front ≡ false
 differ-front test b front xs here there =
-    not-true _ (λ same. never-both b (sym here ∙ ap test (sym (take-append-drop 5 xs) ∙ ap (λ t. t ++ drop 5 xs) (same-bytes (take 5 xs) front same)) ∙ there (drop 5 xs)))
+    false_from_ne_true _ (λ same. never-both b (sym here ∙ ap test (sym (take-append-drop 5 xs) ∙ ap (λ t. t ++ drop 5 xs) (same-bytes (take 5 xs) front same)) ∙ there (drop 5 xs)))
 
 -- ---- what a word is
 

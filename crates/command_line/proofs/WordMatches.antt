@@ -20,7 +20,7 @@ use Rattle.command_line.specs.declared.words.WordsFault.{WordsFault}
 use Rattle.command_line.specs.declared.words.WordsFault.TheVariants.{Memory, Usage}
 use Rattle.command_line.proofs.WordLooks.{Valued, has_fault, make_value, name_of, tick_value}
 use Rattle.command_line.proofs.WordLemmas.{Finds, texts_of, words-found}
-use Rattle.command_line.proofs.WordRowLemmas.{so_far}
+use Rattle.command_line.proofs.WordRowLemmas.{none-through, so_far}
 
 -- each word is text
 all-text : {Z : Type 0} (words : List (String Z)) → AllByRecursion IsUtf8 (map string_bytes words)
@@ -124,10 +124,6 @@ values-are : (got : Option (Bor Text)) → values_of got ≡ option_to_list (opt
 values-are None = refl
 values-are (Some text) = refl
 
-none-behind : {T U : Type 0} (o : Option T) (f : T → Option U) → ((x : T) → f x ≡ None) → option_and_then f o ≡ None
-none-behind None f none = refl
-none-behind (Some x) f none = none x
-
 -- and in what the getters of the matches answer
 module _ {Z : Type 0} (words : List (String Z)) (m : ArgMatches) (has : IsFound (given_by (map string_bytes words)) m) where
   abbrev named : Option (List Space)
@@ -164,12 +160,12 @@ module _ {Z : Type 0} (words : List (String Z)) (m : ArgMatches) (has : IsFound 
   -- nor is that of `--make`
   pub none-by-make : (got : Option (Bor Text)) → Gets (codes "make") got → make_of (values_of got) ≡ None → options (map string_bytes words) ≡ None
   none-by-make got gets none =
-      asked-told ∙ ap (λ make. asked_with has.fresh has.store tick_asked make named) (make-got got gets ∙ none) ∙ none-behind tick_asked _ (λ tick. refl)
+      asked-told ∙ ap (λ make. asked_with has.fresh has.store tick_asked make named) (make-got got gets ∙ none) ∙ none-through tick_asked _ (λ tick. refl)
 
   -- some name behind the store's is that of no space, or they may not stand together
   pub none-by-spaces : named ≡ None → options (map string_bytes words) ≡ None
   none-by-spaces none =
-      asked-told ∙ ap (asked_with has.fresh has.store tick_asked make_asked) none ∙ none-behind tick_asked _ (λ tick. none-behind make_asked _ (λ make. refl))
+      asked-told ∙ ap (asked_with has.fresh has.store tick_asked make_asked) none ∙ none-through tick_asked _ (λ tick. none-through make_asked _ (λ make. refl))
 
   module _ (got : Option (Bor Text)) (gets : option_map (λ text. text.now) got ≡ first_value (found_of m) (codes "store")) where
     pub store-got : IsSome got

@@ -23,6 +23,7 @@ use Rattle.hac_model.proofs.PlainLemmas.{stands-last, stands-path}
 use Rattle.hac_model.proofs.TreeLemmas.{Lives, child-entry, directory-lives}
 use Rattle.hac_model.proofs.Walks.{destination-walk, walk}
 use Rattle.command_paths.specs.Traces.{begin, step_to, steps, trace, up, word_met}
+use Rattle.hac_names.proofs.Walks.{nothing_left}
 
 -- Where words begin.
 
@@ -31,9 +32,6 @@ without-last : (k : ℕ) (path : List (List ℕ)) (name : List ℕ) → without_
 without-last k path name =
     let fewer : length (path ++ name ∷ []) - suc k ≡ length path - k = omega (arith, length-append path (name ∷ [])) in
     ap (λ (n : ℕ). take n (path ++ name ∷ [])) fewer ∙ take-append-le (length path - k) path (name ∷ []) (omega arith)
-
-without-none : (k : ℕ) → without_last k [] ≡ []
-without-none k = take_all (0 - k) [] (omega arith)
 
 -- a path that leads to a directory
 pub record Leads (s : State) (path : List (List ℕ)) (dir : ℕ) : Type 0 where
@@ -52,7 +50,7 @@ up-leads s (suc k) dir h is = by_life (directory-lives s.entries dir is) (λ abo
         let above = on 0 refl in
         let bare : path_of s dir ≡ [] = ap (path_of s) root ∙ path_of-root s h in
         let short : without_last k (path_of s 0) ≡ without_last (suc k) (path_of s dir) =
-        ap (without_last k) (path_of-root s h) ∙ without-none k ∙ sym (ap (without_last (suc k)) bare ∙ without-none (suc k)) in
+        ap (without_last k) (path_of-root s h) ∙ nothing_left k ∙ sym (ap (without_last (suc k)) bare ∙ nothing_left (suc k)) in
         subst (λ (d : ℕ). Leads s (without_last (suc k) (path_of s dir)) (up k s d)) stays
         (subst (λ (p : List (List ℕ)). Leads s p (up k s 0)) short above)
     by_life (inr (e, found)) on =

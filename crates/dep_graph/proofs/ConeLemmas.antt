@@ -5,12 +5,12 @@ use Rattle.std.specs.List.{list_any}
 use Rattle.std.proofs.lemmas.List.{append-nil}
 use Rattle.hac_model.specs.Tree.Depends.{Among}
 use Rattle.hac_model.proofs.AmongLemmas.{among-append, among-left, among-right}
-use Rattle.hac_model.proofs.ChangeLemmas.{or-cases, or-left, or-right}
 use Rattle.hac_model.proofs.CycleLemmas.{among-any, any-among}
 use Rattle.dep_graph.specs.Searches.{IsCone, IsOrdered, ReachesAny}
 use Rattle.dep_graph.specs.Steps.{Marks}
 use Rattle.dep_graph.proofs.OwedLemmas.{marks-more, marks-same}
 use Rattle.dep_graph.proofs.ReachLemmas.{marks-cases}
+use Rattle.std.proofs.lemmas.Bool.{or_cases, or_left, or_right}
 
 -- those kept and those that are left are in order, the set has the directories and those kept, and what reaches a directory is kept or left
 pub record Keeping (edges : ℕ → List ℕ) (dirs cone left : List ℕ) (set : ℕ → Bool) : Type 0 where
@@ -76,8 +76,8 @@ next-in edges dirs cone left set n next h edge reach = by_edges (bare-or-some (e
     by_edges (inr some) = by_place (h.all next some reach)
 
 reaching-in : (edges : ℕ → List ℕ) (dirs cone left : List ℕ) (set : ℕ → Bool) (n : ℕ) → Keeping edges dirs cone (n ∷ left) set → ReachesAny edges n dirs → leads_in edges set n ≡ true
-reaching-in edges dirs cone left set n h (to, there, (zero, here)) = or-left (set n) (list_any (λ edge. set edge) (edges n)) (h.in_set n (inl (subst (λ (x : ℕ). Among dirs x) (sym here) there)))
-reaching-in edges dirs cone left set n h (to, there, (suc k, (next, edge, more))) = or-right (set n) (list_any (λ edge. set edge) (edges n)) (any-among (λ edge. set edge) (edges n) next edge (next-in edges dirs cone left set n next h edge (to, there, (k, more))))
+reaching-in edges dirs cone left set n h (to, there, (zero, here)) = or_left (set n) (list_any (λ edge. set edge) (edges n)) (h.in_set n (inl (subst (λ (x : ℕ). Among dirs x) (sym here) there)))
+reaching-in edges dirs cone left set n h (to, there, (suc k, (next, edge, more))) = or_right (set n) (list_any (λ edge. set edge) (edges n)) (any-among (λ edge. set edge) (edges n) next edge (next-in edges dirs cone left set n next h edge (to, there, (k, more))))
 
 pub keeping-passes : (edges : ℕ → List ℕ) (dirs cone left : List ℕ) (set : ℕ → Bool) (n : ℕ) → Keeping edges dirs cone (n ∷ left) set → leads_in edges set n ≡ false → Keeping edges dirs cone left set
 keeping-passes edges dirs cone left set n h out = record {
@@ -138,7 +138,7 @@ keeping-keeps edges dirs cone left old new n h marks is = record {
     from (inr some) = let found = among-any (λ edge. old edge) (edges n) some in over found.0 found.1 (onward found.0 (h.from_set found.0 found.2))
 
     here : ReachesAny edges n dirs
-    here = from (or-cases (old n) (list_any (λ edge. old edge) (edges n)) is)
+    here = from (or_cases (old n) (list_any (λ edge. old edge) (edges n)) is)
 
     reaching : (m : ℕ) → Among cone m ⊎ Among (n ∷ []) m → (edges m ≢ []) × ReachesAny edges m dirs
     reaching m (inl there) = h.reaching m there

@@ -3,10 +3,9 @@ use Rattle.std.proofs.Common.{◌≡◌, ◌≢◌, ℕ, zero, suc, Bool, true, 
 use Rattle.std.specs.Prelude.{◌⊎◌, ◌==◌, ◌&&◌}
 use Rattle.std.specs.Bool.{Decides}
 use Rattle.std.specs.List.{list_all}
-use Rattle.std.proofs.lemmas.Bool.{and_from, and_parts, eqb-true}
+use Rattle.std.proofs.lemmas.Bool.{and_from, and_parts, eqb-true, or_cases, or_left, or_right}
 use Rattle.std.proofs.lemmas.List.{nil_from_length}
 use Rattle.hac_model.specs.Tree.Depends.{Among, Leads, NeverReturns}
-use Rattle.hac_model.proofs.ChangeLemmas.{or-cases, or-left, or-right}
 use Rattle.dep_graph.specs.Orders.{all_placed, is_settled, lead_back, with_placed}
 use Rattle.dep_graph.specs.Searches.{AnyReaches, AreSources, IsOrdered}
 use Rattle.dep_graph.proofs.ConeLemmas.{bare-or-some}
@@ -27,16 +26,16 @@ all-from test (n ∷ ns) each = and_from (test n) (list_all test ns) (each n (in
 -- ---- what is settled
 
 settled-cases : (edges : ℕ → List ℕ) (placed : ℕ → Bool) (n : ℕ) → is_settled edges placed n ≡ true → (placed n ≡ true) ⊎ (edges n ≡ [])
-settled-cases edges placed n h = elim (or-cases (placed n) (length (edges n) == 0) h) as (λ _. (placed n ≡ true) ⊎ (edges n ≡ [])) [
+settled-cases edges placed n h = elim (or_cases (placed n) (length (edges n) == 0) h) as (λ _. (placed n ≡ true) ⊎ (edges n ≡ [])) [
   | inl there ↦ inl there
   | inr none ↦ inr (nil_from_length (edges n) (eqb-true (length (edges n)) 0 none))
 ]
 
 settled-bare : (edges : ℕ → List ℕ) (placed : ℕ → Bool) (n : ℕ) → edges n ≡ [] → is_settled edges placed n ≡ true
-settled-bare edges placed n none = or-right (placed n) (length (edges n) == 0) (ap (λ (ns : List ℕ). length ns == 0) none)
+settled-bare edges placed n none = or_right (placed n) (length (edges n) == 0) (ap (λ (ns : List ℕ). length ns == 0) none)
 
 settled-placed : (edges : ℕ → List ℕ) (placed : ℕ → Bool) (n : ℕ) → placed n ≡ true → is_settled edges placed n ≡ true
-settled-placed edges placed n there = or-left (placed n) (length (edges n) == 0) there
+settled-placed edges placed n there = or_left (placed n) (length (edges n) == 0) there
 
 settled-more : (edges : ℕ → List ℕ) (placed : ℕ → Bool) (n m : ℕ) → is_settled edges placed m ≡ true → is_settled edges (with_placed placed n) m ≡ true
 settled-more edges placed n m h = elim (settled-cases edges placed m h) as (λ _. is_settled edges (with_placed placed n) m ≡ true) [

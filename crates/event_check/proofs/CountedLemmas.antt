@@ -1,6 +1,6 @@
 -- How much a state holds after an event, by its tree.
 use Rattle.std.proofs.Common.{◌≡◌, true, false, cond, List, [], ◌∷◌, ◌++◌, refl, ap, sym, ◌∙◌}
-use Rattle.std.specs.Prelude.{◌&&◌, nat_lt, Option, Some, None}
+use Rattle.std.specs.Prelude.{◌&&◌, nat_lt, Some, None}
 use Rattle.std.specs.Option.{option_map}
 use Rattle.std.proofs.lemmas.Bool.{and_from, and_parts}
 use Rattle.hac_model.specs.Run.Answers.{Refuses}
@@ -23,6 +23,7 @@ use Rattle.hac_model.proofs.BareLemmas.{bare-commutes}
 use Rattle.tree_counts.specs.Seated.{is_seated}
 use Rattle.kept_state.proofs.StateLemmas.{same-free, same-mount}
 use Rattle.event_check.proofs.PlacedLemmas.{same-alone, same-made_holder}
+use Rattle.hac_model.proofs.EventLemmas.{no_limit}
 
 -- what is placed is in the tree
 pub placed-seated : (s : State) (e : Event) → is_placed s e ≡ true → is_seated s e ≡ true
@@ -75,10 +76,6 @@ none-passed (x ∷ xs) ys h =
       | false ↦ (λ h. none-passed xs ys h)
     ] h
 
-no-limit : (o : Option LimitWord) → option_map refusal.Limit o ≡ None → o ≡ None
-no-limit None h = refl
-no-limit (Some word) h = absurd cc
-
 -- a limit that stands first stands against both
 pub refused-front : (xs ys : List Limit) (deny : Deny) → Refuses deny (option_map refusal.Limit (first_passed xs)) → Refuses deny (option_map refusal.Limit (first_passed (xs ++ ys)))
 refused-front xs ys deny.Memory h = tt
@@ -89,4 +86,4 @@ refused-front xs ys (deny.Refused e) h = elim (first_passed xs) as (λ o. first_
 
 -- and where none does, those behind stand
 pub passed-front : (xs ys : List Limit) → option_map refusal.Limit (first_passed xs) ≡ None → option_map refusal.Limit (first_passed (xs ++ ys)) ≡ option_map refusal.Limit (first_passed ys)
-passed-front xs ys h = ap (option_map refusal.Limit) (none-passed xs ys (no-limit (first_passed xs) h))
+passed-front xs ys h = ap (option_map refusal.Limit) (none-passed xs ys (no_limit (first_passed xs) h))

@@ -1,12 +1,9 @@
 -- Tests of lists, by what is left of them.
-use Rattle.std.proofs.Common.{◌≡◌, ℕ, ◌+◌, ◌<◌, ◌≤◌, Bool, true, false, List, ◌∷◌, drop, length, get_or, ap, sym, ◌∙◌, arith}
+use Rattle.std.proofs.Common.{◌≡◌, ℕ, ◌+◌, ◌<◌, ◌≤◌, Bool, true, false, List, ◌∷◌, drop, length, get_or, ap, ◌∙◌, arith}
 use Rattle.std.specs.Prelude.{◌&&◌, if◌then◌else◌, filter}
 use Rattle.std.specs.List.{list_all}
-use Rattle.std.proofs.lemmas.List.{drop_all, drop_more}
-
--- what is left begins with the item at hand
-pub next : {X : Type 0} (xs : List X) (i : ℕ) (x : X) → i < length xs → x ≡ get_or xs i x → drop i xs ≡ x ∷ drop (i + 1) xs
-next {X} xs i x inside is = drop_more xs i x inside ∙ ap (λ (y : X). y ∷ drop (i + 1) xs) (sym is)
+use Rattle.std.proofs.lemmas.List.{drop_all}
+use Rattle.hac_model.proofs.SortedLemmas.{drop-next}
 
 module _ {X : Type 0} (p : X → Bool) (xs : List X) (i : ℕ) where
   -- all pass where all that are left do
@@ -25,17 +22,17 @@ module _ {X : Type 0} (p : X → Bool) (xs : List X) (i : ℕ) where
 
   module _ (x : X) (inside : i < length xs) (is : x ≡ get_or xs i x) where
     pub all-more : p x ≡ true → AllSoFar → list_all p xs ≡ list_all p (drop (i + 1) xs)
-    all-more passes so_far = so_far ∙ ap (list_all p) (next xs i x inside is) ∙ ap (λ (b : Bool). b && list_all p (drop (i + 1) xs)) passes
+    all-more passes so_far = so_far ∙ ap (list_all p) (drop-next xs i x inside is) ∙ ap (λ (b : Bool). b && list_all p (drop (i + 1) xs)) passes
 
     pub all-fails : p x ≡ false → AllSoFar → list_all p xs ≡ false
-    all-fails fails so_far = so_far ∙ ap (list_all p) (next xs i x inside is) ∙ ap (λ (b : Bool). b && list_all p (drop (i + 1) xs)) fails
+    all-fails fails so_far = so_far ∙ ap (list_all p) (drop-next xs i x inside is) ∙ ap (λ (b : Bool). b && list_all p (drop (i + 1) xs)) fails
 
     pub counts-more : (count : ℕ) → p x ≡ true → CountsSoFar count → (count + 1) + length (filter p (drop (i + 1) xs)) ≡ length (filter p xs)
     counts-more count passes so_far =
-        let one : length (filter p (drop i xs)) ≡ length (x ∷ filter p (drop (i + 1) xs)) = ap (λ (ys : List X). length (filter p ys)) (next xs i x inside is) ∙ ap (λ (b : Bool). length (if b then x ∷ filter p (drop (i + 1) xs) else filter p (drop (i + 1) xs))) passes in
+        let one : length (filter p (drop i xs)) ≡ length (x ∷ filter p (drop (i + 1) xs)) = ap (λ (ys : List X). length (filter p ys)) (drop-next xs i x inside is) ∙ ap (λ (b : Bool). length (if b then x ∷ filter p (drop (i + 1) xs) else filter p (drop (i + 1) xs))) passes in
         omega (arith, so_far, one)
 
     pub counts-less : (count : ℕ) → p x ≡ false → CountsSoFar count → count + length (filter p (drop (i + 1) xs)) ≡ length (filter p xs)
     counts-less count fails so_far =
-        let none : length (filter p (drop i xs)) ≡ length (filter p (drop (i + 1) xs)) = ap (λ (ys : List X). length (filter p ys)) (next xs i x inside is) ∙ ap (λ (b : Bool). length (if b then x ∷ filter p (drop (i + 1) xs) else filter p (drop (i + 1) xs))) fails in
+        let none : length (filter p (drop i xs)) ≡ length (filter p (drop (i + 1) xs)) = ap (λ (ys : List X). length (filter p ys)) (drop-next xs i x inside is) ∙ ap (λ (b : Bool). length (if b then x ∷ filter p (drop (i + 1) xs) else filter p (drop (i + 1) xs))) fails in
         omega (arith, so_far, none)

@@ -19,6 +19,7 @@ use Rattle.event_codec.specs.Laws.{AreBytes}
 use Rattle.event_codec.proofs.FieldLemmas.{Took, Lawful, bind_ok, ok_is, wide16, num_lawful, run_lawful, nothing_lawful, way_is, whole_way_is, choice_takes, way_again, whole_way_again}
 use Rattle.hac_model.specs.declared.versions.Version.{Version}
 use Rattle.payload_fields.proofs.FrontLemmas.{with_front}
+use Rattle.std.proofs.lemmas.Option.{cond_some}
 
 pub word_lawful : Lawful word_field
 word_lawful = run_lawful w16 QUERY_LIMIT is_word wide16 (lit< tt)
@@ -102,10 +103,6 @@ ok_or-ok : {A : Type 0} (o : Option A) (left : ℕ) (x : A) → ok_or o left ≡
 ok_or-ok None left x e = absurd cc
 ok_or-ok (Some y) left x e = ap (λ z. Some z) (ok_is y x e)
 
-some_if : {A : Type 0} (b : Bool) (x y : A) → cond b (Some x) None ≡ Some y → (b ≡ true) × (x ≡ y)
-some_if true x y e = (refl, cc)
-some_if false x y e = absurd cc
-
 some_is : {A : Type 0} (x y : A) (e : Some x ≡ Some y) → x ≡ y
 some_is x y e = cc
 
@@ -142,7 +139,7 @@ put_takes : (version : Version) (nots : ℕ) (wanted : List ℕ) (terms letters 
     → bytes ≡ (token_field version).text t ++ after → (token_field version).fits t ≡ true → room_after nots wanted terms letters t ≡ Some room
     → TookQueries version room after qs behind → TookQueries version (room_of (nots ∷ wanted) terms letters) bytes (put t qs) behind
 put_takes version nots wanted terms letters (token.Term term) room bytes after qs behind text fits e took =
-    let g = some_if (leb 1 terms && leb (term_size term) letters) (room_of wanted (terms - 1) (letters - term_size term)) room e in
+    let g = cond_some (leb 1 terms && leb (term_size term) letters) (room_of wanted (terms - 1) (letters - term_size term)) room e in
     let within = and_parts (leb 1 terms) (leb (term_size term) letters) g.0 in
     let one : 1 ≤ terms = leb-true _ _ within.0 in
     let few : term_size term ≤ letters = leb-true _ _ within.1 in
@@ -156,7 +153,7 @@ put_takes version nots wanted terms letters (token.Term term) room bytes after q
       fits = and_from _ _ fits took.fits;
     }
 put_takes version nots wanted terms letters (token.Dir dir) room bytes after qs behind text fits e took =
-    let g = some_if (leb 1 terms) (room_of wanted (terms - 1) letters) room e in
+    let g = cond_some (leb 1 terms) (room_of wanted (terms - 1) letters) room e in
     let one : 1 ≤ terms = leb-true _ _ g.0 in
     let took : TookQueries version (room_of wanted (terms - 1) letters) after qs behind = subst (λ (r : Room). TookQueries version r after qs behind) (sym g.1) took in
     record {
@@ -168,11 +165,11 @@ put_takes version nots wanted terms letters (token.Dir dir) room bytes after qs 
       fits = and_from _ _ fits took.fits;
     }
 put_takes version nots wanted terms letters token.Not room bytes after [] behind text fits e took =
-    let g = some_if (leb 1 nots) (room_of ((nots - 1) ∷ wanted) terms letters) room e in
+    let g = cond_some (leb 1 nots) (room_of ((nots - 1) ∷ wanted) terms letters) room e in
     let took : TookQueries version (room_of ((nots - 1) ∷ wanted) terms letters) after [] behind = subst (λ (r : Room). TookQueries version r after [] behind) (sym g.1) took in
     absurd took.wanted
 put_takes version nots wanted terms letters token.Not room bytes after (q ∷ qs) behind text fits e took =
-    let g = some_if (leb 1 nots) (room_of ((nots - 1) ∷ wanted) terms letters) room e in
+    let g = cond_some (leb 1 nots) (room_of ((nots - 1) ∷ wanted) terms letters) room e in
     let one : 1 ≤ nots = leb-true _ _ g.0 in
     let took : TookQueries version (room_of ((nots - 1) ∷ wanted) terms letters) after (q ∷ qs) behind = subst (λ (r : Room). TookQueries version r after (q ∷ qs) behind) (sym g.1) took in
     record {

@@ -29,6 +29,7 @@ use Rattle.event_codec.specs.Laws.{AreBytes, ReadIsSnapshot, SnapshotIsRead}
 use Rattle.event_codec.proofs.FieldLemmas.{Took, Lawful, WayTakes, bind_ok, guard_ok, ok_is, nothing_lawful, both_lawful, checked_lawful, count_lawful, list_lawful, num_lawful, seen_lawful, way_is, way_is_fitting, whole_way_is, choice_takes, way_again, whole_way_again}
 use Rattle.event_codec.proofs.PayloadLemmas.{name_lawful, space_lawful, target_lawful, text_lawful, nums_lawful, placed_ok}
 use Rattle.event_codec.proofs.QueryLemmas.{query_lawful, word_lawful}
+use Rattle.hac_model.proofs.ChangeLemmas.{and-true}
 
 -- ---- files
 
@@ -152,10 +153,6 @@ mount_lawful version = both_lawful space_field (documents_field version & list c
 -- what has no documents is spelled without them
 no-documents : (documents : List Document) → no_documents.fits documents ≡ true → documents ≡ []
 no-documents documents none = nil_from_length documents (eqb-true _ _ none)
-
-and-true : (b : Bool) → (b && true) ≡ b
-and-true false = refl
-and-true true = refl
 
 file-part : (version : Version) (x : Bool × (List ℕ × Option (List ℕ))) → stored_part version (File x.1.0 x.0 x.1.1, []) ≡ part 1 (flag_field & texts_field) x
 file-part version x = rw (append-nil (texts_field.text x.1), and-true (texts_field.fits x.1)) refl

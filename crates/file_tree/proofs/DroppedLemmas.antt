@@ -17,10 +17,11 @@ use Rattle.file_tree.specs.declared.ready.Ready.{Ready}
 use Rattle.file_tree.specs.declared.ready.Ready.TheVariants.{Sync}
 use Rattle.file_tree.specs.declared.tree.Tree.TheInside.{Inside}
 use Rattle.file_tree.proofs.ChildLemmas.{child-named}
-use Rattle.tree_nodes.proofs.FoundLemmas.{found-same, has-among}
+use Rattle.tree_nodes.proofs.FoundLemmas.{found-same}
 use Rattle.file_tree.proofs.NumberLemmas.{found-map, names-rise, number-names}
 use Rattle.tree_nodes.proofs.OverLemmas.{named-follow, named-low, named-same, names-same, over-same}
 use Rattle.file_tree.proofs.SyncLemmas.{documents, find, find-member, leaves, member, more}
+use Rattle.hac_model.proofs.AmongLemmas.{has-among}
 
 module _ (t : Inside) (h : IsShaped t) (mount : ℕ) (is : is_mount_at (state_of t).entries mount ≡ true) where
   -- what is in the mount has a number that was taken

@@ -8,7 +8,8 @@ use Rattle.hac_model.specs.Tree.Valid.{NumbersRise, RiseFrom}
 use Rattle.hac_model.specs.declared.states.Entry.{Entry}
 use Rattle.hac_model.proofs.TreeLemmas.{entry_at-next}
 use Rattle.file_tree.specs.Answers.{numbers_of}
-use Rattle.file_tree.proofs.RisingLemmas.{has-first, has-low, rise-lower}
+use Rattle.file_tree.proofs.RisingLemmas.{has-first, has-low}
+use Rattle.hac_model.proofs.MarkLemmas.{rise-lower}
 
 -- the numbers of entries rise
 pub numbers-rise : (bound above : ℕ) (es : List Entry) (next : ℕ) → NumbersRise above es next → bound ≤ above + 1 → RiseFrom bound (numbers_of es)

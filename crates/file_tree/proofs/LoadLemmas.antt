@@ -6,20 +6,18 @@ use Rattle.std.specs.Option.{option_map, option_map_or}
 use Rattle.std.specs.Ordering.{nat_cmp}
 use Rattle.std.specs.Str.{bytes_eq}
 use Rattle.std.proofs.Math.Bool.{or-false, and-true, and-false}
-use Rattle.std.proofs.lemmas.Bool.{ne_eqb}
+use Rattle.std.proofs.lemmas.Bool.{cases_Bool, cases_eq, ne_eqb}
 use Rattle.std.proofs.lemmas.List.{append-nil}
 use Rattle.std.proofs.lemmas.Slice.Eq.{bytes_eq-Decides}
-use Rattle.hac_model.specs.Tree.Bare.{bare, bare_body}
+use Rattle.hac_model.specs.Tree.Bare.{bare}
 use Rattle.hac_model.specs.Tree.Depends.{Among}
 use Rattle.hac_model.specs.Tree.Limits.{passed_limit}
 use Rattle.hac_model.specs.Tree.{child, entry_at, is_dirty}
 use Rattle.hac_model.specs.Tree.Valid.{IsLayout, IsSound, NumbersRise, is_in_place}
-use Rattle.hac_model.specs.declared.states.Body.{Body}
-use Rattle.hac_model.specs.declared.states.Body.TheVariants.{File, Dir, Symlink, Semantic, Mount, Document}
 use Rattle.hac_model.specs.declared.states.Entry.{Entry}
 use Rattle.hac_model.specs.declared.states.State.{State}
 use Rattle.hac_model.specs.declared.versions.Version.TheVariants.{Two}
-use Rattle.hac_model.proofs.AlikeLemmas.{entry_at-bare, layout-bare}
+use Rattle.hac_model.proofs.AlikeLemmas.{bare-dirty, entry_at-bare, layout-bare}
 use Rattle.hac_model.proofs.ChangeLemmas.{entry_at-new, entry_at-other}
 use Rattle.hac_model.proofs.RaisedLemmas.{raised-layout}
 use Rattle.hac_model.proofs.TreeLemmas.{Lives, child-own, directory-lives, entry_at-all, entry_at-below, entry_at-first, entry_at-low, entry_at-next, place-directory, rise-below}
@@ -32,10 +30,10 @@ use Rattle.file_tree.specs.declared.loading.Loading.{Loading}
 use Rattle.file_tree.specs.declared.tree.Tree.TheInside.{Inside}
 use Rattle.file_tree.proofs.ChildLemmas.{name-told, parent-told}
 use Rattle.file_tree.proofs.ReadLemmas.{entry_of-number}
-use Rattle.file_tree.proofs.RiseLemmas.{below-risen, entry_at-front, entry_at-over, rise-fresh}
-use Rattle.tree_nodes.proofs.SetLemmas.{same-or-not}
+use Rattle.file_tree.proofs.RiseLemmas.{below-risen, entry_at-over, rise-fresh}
 use Rattle.file_tree.proofs.ShapeLemmas.{tree-linked, tree-same}
-use Rattle.file_tree.proofs.StateLemmas.{state_with, true-or-false}
+use Rattle.file_tree.proofs.StateLemmas.{state_with}
+use Rattle.hac_model.proofs.MountAskLemmas.{entry_at-joined}
 
 -- the entry that is looked up is dirty
 abbrev dirty_in : Option Entry → Bool
@@ -51,7 +49,7 @@ node-more before after e rest q other own = elim (nat_eq e.number q) as (λ b. (
 
 -- an entry more is looked up under its number
 entry_at-more : (taken : List Entry) (e : Entry) (q : ℕ) → entry_at taken e.number ≡ None → entry_at (taken ++ e ∷ []) q ≡ cond (nat_eq e.number q) (Some e) (entry_at taken q)
-entry_at-more taken e q none = elim (same-or-not e.number q) [
+entry_at-more taken e q none = elim (cases_eq e.number q) [
   | inl same ↦
       ap (λ (k : ℕ). entry_at (taken ++ e ∷ []) k) (sym same) ∙ entry_at-new taken e none
       ∙ sym (ap (λ (b : Bool). cond b (Some e) (entry_at taken q)) (eq-eqb e.number q same))
@@ -175,7 +173,7 @@ module _ (next : ℕ) (all : List Entry) (layout : IsLayout (state_with Two next
       entries q = placed.entries q ∙ ap (λ (o : Option Entry). cond (nat_eq e.number q) (Some (bare_entry e)) o) (before q) ∙ (elim (nat_eq e.number q) as (λ b. cond b (Some (bare_entry e)) (option_map bare_entry (entry_at taken q)) ≡ option_map bare_entry (cond b (Some e) (entry_at taken q))) [ true ↦ refl | false ↦ refl ])
 
       dirty : (q : ℕ) → (is_dirty_at taken q || (is_dirty e.body && nat_eq e.number q)) ≡ is_dirty_at (taken ++ e ∷ []) q
-      dirty q = elim (same-or-not e.number q) [
+      dirty q = elim (cases_eq e.number q) [
         | inl is ↦
             (let none : is_dirty_at taken q ≡ false = ap (λ (k : ℕ). is_dirty_at taken k) (sym is) ∙ ap dirty_in behind.1 in
             (λ i. none i || (is_dirty e.body && eq-eqb e.number q is i)) ∙ and-true (is_dirty e.body)
@@ -186,12 +184,12 @@ module _ (next : ℕ) (all : List Entry) (layout : IsLayout (state_with Two next
       ]
 
       free : (m : ℕ) → Among (kids e.parent) m → bytes_eq (names m) e.name ≡ false
-      free m among = elim (true-or-false (bytes_eq (names m) e.name)) [
+      free m among = elim (cases_Bool (bytes_eq (names m) e.name)) [
         | inr other ↦ other
         | inl even ↦
             (let found = parent-told (at m) e.parent (h.lists.listed e.parent m among) in
             let entry = shown (entry_at taken m) found.0 (sym (before m) ∙ found.1) in
-            let first : entry_at all m ≡ Some entry.0 = ap (λ (es : List Entry). entry_at es m) split ∙ entry_at-front taken (e ∷ rest) m entry.0 entry.1 in
+            let first : entry_at all m ≡ Some entry.0 = ap (λ (es : List Entry). entry_at es m) split ∙ entry_at-joined taken (e ∷ rest) m entry.0 entry.1 in
             let name : entry.0.name ≡ e.name = ap (λ (x : Entry). x.name) entry.2 ∙ sym (name-told old.nodes m found.0 found.1) ∙ (bytes_eq-Decides (names m) e.name).0 even in
             let dir : entry.0.parent ≡ e.parent = ap (λ (x : Entry). x.parent) entry.2 ∙ found.2 in
             let both : Some m ≡ Some e.number =
@@ -241,19 +239,11 @@ module _ (s : State) (layout : IsLayout s) (u : Inside) (next : u.next ≡ s.nex
       missing : (n : ℕ) → entry_of u.nodes n ≡ None → entry_at s.entries n ≡ None
       missing n none = bare-none (entry_at s.entries n) (sym (loaded n) ∙ none)
 
-pub dirty-bare : (body : Body) → is_dirty (bare_body body) ≡ is_dirty body
-dirty-bare (File text dirty shown) = refl
-dirty-bare Dir = refl
-dirty-bare (Symlink target) = refl
-dirty-bare (Semantic query permanent prohibited) = refl
-dirty-bare (Mount space answers) = refl
-dirty-bare Document = refl
-
 -- the same files are dirty
 pub dirty-loaded : (s : State) (n : ℕ) → is_dirty_at (bare s).entries n ≡ is_dirty_at s.entries n
 dirty-loaded s n = ap dirty_in (entry_at-bare s n) ∙ (elim (entry_at s.entries n) as (λ o. dirty_in (option_map bare_entry o) ≡ dirty_in o) [
   | None ↦ refl
-  | Some e ↦ dirty-bare e.body
+  | Some e ↦ bare-dirty e.body
 ])
 
 -- the lists once a number is put into one of them, given the names and the lists before, and the same again once there is

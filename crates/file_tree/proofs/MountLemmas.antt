@@ -3,7 +3,7 @@ use Rattle.std.proofs.Common.{◌≡◌, ℕ, ◌+◌, ◌<◌, ◌≤◌, true,
 use Rattle.std.specs.Prelude.{insert, Option, Some, None}
 use Rattle.std.specs.Str.{bytes_eq}
 use Rattle.std.proofs.lemmas.Slice.Eq.{bytes_eq-Decides}
-use Rattle.std.proofs.lemmas.Bool.{cases_lt}
+use Rattle.std.proofs.lemmas.Bool.{cases_Bool, cases_eq, cases_lt}
 use Rattle.hac_model.specs.Tree.Depends.{Among}
 use Rattle.hac_model.specs.Tree.Mounting.{do_names_rise, documents_from, mounted}
 use Rattle.hac_model.specs.Tree.Valid.{IsLayout}
@@ -24,9 +24,9 @@ use Rattle.file_tree.proofs.NestLemmas.{IsSynced, goes, tree-synced}
 use Rattle.file_tree.proofs.NumberLemmas.{numbers-none, unknown-none}
 use Rattle.tree_nodes.proofs.OverLemmas.{NamesFollow, dirty_in, follow-same, long, named-follow, named-low, names-same, over-clean, over-follow, over-high, over-inside, over-low}
 use Rattle.file_tree.proofs.ReadLemmas.{seen-at, seen-entry}
-use Rattle.tree_nodes.proofs.SetLemmas.{same-or-not, set-here, set-there}
+use Rattle.tree_nodes.proofs.SetLemmas.{set-here, set-there}
 use Rattle.file_tree.proofs.ShapeLemmas.{tree-linked, tree-same}
-use Rattle.file_tree.proofs.StateLemmas.{apart, entry-low, state_with, true-or-false}
+use Rattle.file_tree.proofs.StateLemmas.{apart, entry-low, state_with}
 
 -- nothing is found
 abbrev pub nowhere : List ℕ → Option ℕ
@@ -81,7 +81,7 @@ module _ (t : Inside) (s : Seen) (view : seen_of t ≡ s) (h : IsShaped t) (u : 
     clean-mounted n =
         ap dirty_in (m.entries n)
         ∙ over-clean xs (t.next + 1) t.next n at (λ k high. set-there t.next (Some new) (entry_of t.nodes) k (λ same. omega arith) ∙ h.lists.above k (omega arith))
-        ∙ (elim (same-or-not t.next n) [
+        ∙ (elim (cases_eq t.next n) [
           | inl same ↦
               ap (λ (k : ℕ). dirty_in (at k)) (sym same) ∙ ap dirty_in (set-here t.next (Some new) (entry_of t.nodes))
               ∙ ap dirty_in (sym (h.lists.above t.next (omega arith))) ∙ ap (λ (k : ℕ). dirty_in (entry_of t.nodes k)) same
@@ -102,7 +102,7 @@ module _ (t : Inside) (s : Seen) (view : seen_of t ≡ s) (h : IsShaped t) (u : 
           m.entries n ∙ over-high xs (t.next + 1) t.next n at far ∙ set-there t.next (Some new) (entry_of t.nodes) n (λ same. omega arith) ∙ h.lists.above n (omega arith)
 
       free : (n : ℕ) → Among (kids_of t.nodes dir) n → bytes_eq (name_of t.nodes n) name ≡ false
-      free n among = elim (true-or-false (bytes_eq (name_of t.nodes n) name)) [
+      free n among = elim (cases_Bool (bytes_eq (name_of t.nodes n) name)) [
         | inr other ↦ other
         | inl same ↦
             (let found = parent-told (entry_of t.nodes n) dir (h.lists.listed dir n among) in
@@ -143,7 +143,7 @@ module _ (t : Inside) (s : Seen) (view : seen_of t ≡ s) (h : IsShaped t) (u : 
 
       others : HasNoOther u.nodes u.next
       others n root below gone = elim (cases_lt n (t.next + 1)) [
-        | inl less ↦ elim (same-or-not t.next n) [
+        | inl less ↦ elim (cases_eq t.next n) [
           | inl same ↦ (let none : Some new ≡ None = sym here ∙ ap (λ (k : ℕ). entry_of u.nodes k) same ∙ gone in absurd cc)
           | inr other ↦
               (let lower : n < t.next = omega arith in

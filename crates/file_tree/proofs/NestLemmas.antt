@@ -2,7 +2,7 @@
 use Rattle.std.proofs.Common.{◌≡◌, ℕ, ◌+◌, ◌<◌, ◌≤◌, Bool, true, false, cond, List, [], length, map, refl, ap, sym, subst, ◌∙◌, arith, inl, inr}
 use Rattle.std.specs.Prelude.{◌&&◌, not, Option, Some, None}
 use Rattle.std.proofs.Math.Bool.{and-false}
-use Rattle.std.proofs.lemmas.Bool.{cases_lt}
+use Rattle.std.proofs.lemmas.Bool.{cases_eq, cases_lt}
 use Rattle.hac_model.specs.Tree.Depends.{Among}
 use Rattle.hac_model.specs.Tree.Links.{has}
 use Rattle.hac_model.specs.Tree.Mounting.{do_names_rise, is_among}
@@ -11,11 +11,12 @@ use Rattle.tree_nodes.specs.Nodes.{set_at, parent_in}
 use Rattle.tree_nodes.specs.Documents.{numbers_from, unknown}
 use Rattle.file_tree.specs.Shape.{AreNested}
 use Rattle.tree_nodes.specs.Search.{NamesRise}
-use Rattle.tree_nodes.proofs.FoundLemmas.{among-has, has-not}
+use Rattle.tree_nodes.proofs.FoundLemmas.{has-not}
 use Rattle.tree_nodes.proofs.ListLemmas.{rises-same}
 use Rattle.file_tree.proofs.NumberLemmas.{names-rise, number-from, number-known, number-names, number-new}
 use Rattle.tree_nodes.proofs.OverLemmas.{NamesFollow}
-use Rattle.tree_nodes.proofs.SetLemmas.{same-or-not, set-here, set-there}
+use Rattle.tree_nodes.proofs.SetLemmas.{set-here, set-there}
+use Rattle.hac_model.proofs.AmongLemmas.{among-has}
 
 -- an entry goes whose name isn't among these
 abbrev pub goes : (ℕ → List ℕ) → List ℕ → List (List ℕ) → ℕ → Bool
@@ -67,7 +68,7 @@ module _ (next m : ℕ) (at other : ℕ → Option Entry) (names named : ℕ →
   ]
 
   listed : (d q : ℕ) → Among (set_at m (numbers_from find next xs) kids d) q → parent_in (other q) ≡ Some d
-  listed d q among = elim (same-or-not m d) [
+  listed d q among = elim (cases_eq m d) [
     | inl same ↦
         own-list q (subst (λ (ns : List ℕ). Among ns q) (ap (λ (k : ℕ). set_at m (numbers_from find next xs) kids k) (sym same) ∙ set-here m (numbers_from find next xs) kids) among)
         ∙ ap (λ (k : ℕ). Some k) same
@@ -95,7 +96,7 @@ module _ (next m : ℕ) (at other : ℕ → Option Entry) (names named : ℕ →
           absurd cc)
       | false ↦ (λ stays.
           let stands : parent_in (at q) ≡ Some d = sym (ap parent_in (kept q low stays)) ∙ there in
-          elim (same-or-not m d) [
+          elim (cases_eq m d) [
             | inl same ↦ subst (λ (k : ℕ). Among (set_at m (numbers_from find next xs) kids k) q) same (here q (stays-listed q (subst (λ (k : ℕ). Among (kids k) q) (sym same) (h.lists d q stands)) stays))
             | inr differs ↦ subst (λ (ns : List ℕ). Among ns q) (sym (set-there m (numbers_from find next xs) kids d differs)) (h.lists d q stands)
           ])
@@ -115,7 +116,7 @@ module _ (next m : ℕ) (at other : ℕ → Option Entry) (names named : ℕ →
       s.same n (taken m n (h.listed m n member.0)) (known-stays x n is found) ∙ member.1) s.follow
 
   rises : (d : ℕ) → NamesRise named (set_at m (numbers_from find next xs) kids d)
-  rises d = elim (same-or-not m d) [
+  rises d = elim (cases_eq m d) [
     | inl same ↦
         subst (λ (k : ℕ). NamesRise named (set_at m (numbers_from find next xs) kids k)) same
         (subst (λ (ns : List ℕ). NamesRise named ns) (sym (set-here m (numbers_from find next xs) kids)) (names-rise named (numbers_from find next xs) (ap do_names_rise names-are ∙ s.rise)))

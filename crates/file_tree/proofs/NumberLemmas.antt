@@ -5,7 +5,7 @@ use Rattle.std.specs.List.{AllByRecursion, list_all, list_any}
 use Rattle.std.specs.Option.{option_map_or}
 use Rattle.std.specs.Str.{bytes_eq}
 use Rattle.std.proofs.lemmas.Slice.Eq.{bytes_eq-Decides}
-use Rattle.std.proofs.lemmas.Bool.{and_parts}
+use Rattle.std.proofs.lemmas.Bool.{and_parts, cases_eq}
 use Rattle.std.specs.Cmp.Lexicographic.{nat_list_eq_equiv}
 use Rattle.hac_model.specs.Tree.Depends.{Among}
 use Rattle.hac_model.specs.Tree.Listing.{is_before}
@@ -13,7 +13,6 @@ use Rattle.hac_model.specs.Tree.Mounting.{do_names_rise, is_among}
 use Rattle.tree_nodes.specs.Documents.{numbers_from, numbers_up, unknown}
 use Rattle.tree_nodes.specs.Search.{first_named, NamesRise}
 use Rattle.tree_nodes.proofs.OverLemmas.{NamesFollow}
-use Rattle.tree_nodes.proofs.SetLemmas.{same-or-not}
 
 among-first : (x : List ℕ) (xs : List (List ℕ)) → is_among (x ∷ xs) x ≡ true
 among-first x xs = ap (λ (b : Bool). b || list_any (bytes_eq x) xs) (nat_list_eq_equiv.refl x)
@@ -40,7 +39,7 @@ module _ (find : List ℕ → Option ℕ) where
   number-new [] k q high low = absurd (omega arith)
   number-new (x ∷ xs) k q high low = elim (find x) as (λ o. q < k + length (cond (is_none o) (x ∷ unknown find xs) (unknown find xs)) → Among (option_map_or (λ (m : ℕ). m ∷ numbers_from find k xs) o (k ∷ numbers_from find (k + 1) xs)) q) [
     | Some m ↦ (λ low. inr (number-new xs k q high low))
-    | None ↦ (λ low. elim (same-or-not k q) [
+    | None ↦ (λ low. elim (cases_eq k q) [
       | inl same ↦ inl same
       | inr other ↦ inr (number-new xs (k + 1) q (omega arith) (omega arith))
     ])

@@ -21,7 +21,9 @@ use Rattle.tree_nodes.specs.declared.nodes.Node.{Node}
 use Rattle.file_tree.specs.declared.tree.Tree.TheInside.{Inside}
 use Rattle.file_tree.proofs.LiveLemmas.{numbers-has, numbers-rise}
 use Rattle.file_tree.proofs.ReadLemmas.{seen-at, seen-layout}
-use Rattle.file_tree.proofs.RisingLemmas.{eqb-turned, rising-one, steps-rise}
+use Rattle.file_tree.proofs.RisingLemmas.{rising-one}
+use Rattle.hac_model.proofs.SortedLemmas.{steps-rise}
+use Rattle.hac_model.proofs.AmongLemmas.{eqb-turned}
 
 -- the keys of nodes are those under which one is found
 keys-has : (nodes : List (ℕ × Node)) (q : ℕ) → has (keys_of nodes) q ≡ is_some (lookup (nat_eq q) nodes)

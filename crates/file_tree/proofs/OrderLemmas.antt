@@ -22,7 +22,8 @@ use Rattle.file_tree.specs.declared.tree.Tree.TheInside.{Inside}
 use Rattle.file_tree.proofs.ChildLemmas.{name-told, parent-told}
 use Rattle.tree_nodes.proofs.ListLemmas.{among-all, before-itself}
 use Rattle.file_tree.proofs.ReadLemmas.{entry_of-number, seen-entry}
-use Rattle.sorted_lists.proofs.OrderLemmas.{before-other, before-trans}
+use Rattle.hac_model.proofs.NameOrderLemmas.{before-other, before-trans}
+use Rattle.hac_model.proofs.StateSpellingLemmas.{all-order, all-put}
 
 -- the numbers of entries
 abbrev pub numbers_of : List Entry → List ℕ
@@ -31,18 +32,6 @@ numbers_of es = map (λ (e : Entry). e.number) es
 -- what is in a directory, of these entries
 abbrev pub standing : ℕ → List Entry → List Entry
 standing dir es = filter (λ (e : Entry). e.parent == dir) es
-
--- what holds of entries holds of them in order
-all-put : (P : Entry → Type 0) (new : Entry) (es : List Entry) → P new → AllByRecursion P es → AllByRecursion P (put_in_order new es)
-all-put P new [] p h = (p, tt)
-all-put P new (e ∷ es) p h = elim (is_before new.name e.name) as (λ b. AllByRecursion P (cond b (new ∷ e ∷ es) (e ∷ put_in_order new es))) [
-  | true ↦ (p, h)
-  | false ↦ (h.0, all-put P new es p h.1)
-]
-
-all-order : (P : Entry → Type 0) (es : List Entry) → AllByRecursion P es → AllByRecursion P (in_order es)
-all-order P [] h = tt
-all-order P (e ∷ es) h = all-put P e (in_order es) h.0 (all-order P es h.1)
 
 -- an entry that is put in is there, and so is what was
 put-among : (new : Entry) (es : List Entry) → Among (numbers_of (put_in_order new es)) new.number

@@ -2,15 +2,15 @@
 use Rattle.std.proofs.Common.{◌≡◌, ℕ, zero, suc, ◌<◌, ◌≤◌, List, [], ◌∷◌, ◌++◌, refl, ap, sym, subst, ◌∙◌, arith, inl, inr}
 use Rattle.std.specs.Prelude.{◌⊎◌, Option, Some, None}
 use Rattle.std.specs.Option.{option_to_list}
-use Rattle.std.proofs.lemmas.Bool.{cases_lt}
+use Rattle.std.proofs.lemmas.Bool.{cases_eq, cases_lt}
 use Rattle.std.proofs.lemmas.List.{append-nil}
 use Rattle.hac_model.specs.Tree.{entry_at}
 use Rattle.hac_model.specs.Tree.Valid.{NumbersRise}
 use Rattle.hac_model.specs.declared.states.Entry.{Entry}
-use Rattle.hac_model.proofs.TreeLemmas.{entry_at-behind, entry_at-first, entry_at-low}
+use Rattle.hac_model.proofs.TreeLemmas.{entry_at-behind, entry_at-first}
 use Rattle.file_tree.specs.Shape.{entries_below}
 use Rattle.file_tree.proofs.BelowLemmas.{IsNumbered, below-all}
-use Rattle.tree_nodes.proofs.SetLemmas.{same-or-not}
+use Rattle.hac_model.proofs.PlainLemmas.{entries-told}
 
 less-or-more : (m n : ℕ) → (m ≡ n → ⊥) → (m < n) ⊎ (n < m)
 less-or-more m n other = elim (cases_lt m n) [
@@ -43,56 +43,12 @@ rise-fresh above (d ∷ taken) e rest next h =
 -- what the first ones haven't got is looked up behind them
 pub entry_at-over : (taken rest : List Entry) (n : ℕ) → entry_at taken n ≡ None → entry_at (taken ++ rest) n ≡ entry_at rest n
 entry_at-over [] rest n none = refl
-entry_at-over (d ∷ taken) rest n none = elim (same-or-not d.number n) [
+entry_at-over (d ∷ taken) rest n none = elim (cases_eq d.number n) [
   | inl same ↦
       (let found : entry_at (d ∷ taken) n ≡ Some d = ap (λ (k : ℕ). entry_at (d ∷ taken) k) (sym same) ∙ entry_at-first d taken in
       absurd cc)
   | inr other ↦ entry_at-behind d (taken ++ rest) n other ∙ entry_at-over taken rest n (sym (entry_at-behind d taken n other) ∙ none)
 ]
-
--- and what they have is looked up in them
-pub entry_at-front : (taken rest : List Entry) (n : ℕ) (e : Entry) → entry_at taken n ≡ Some e → entry_at (taken ++ rest) n ≡ Some e
-entry_at-front [] rest n e found = absurd cc
-entry_at-front (d ∷ taken) rest n e found = elim (same-or-not d.number n) [
-  | inl same ↦
-      ap (λ (k : ℕ). entry_at (d ∷ (taken ++ rest)) k) (sym same) ∙ entry_at-first d (taken ++ rest) ∙ sym (entry_at-first d taken)
-      ∙ ap (λ (k : ℕ). entry_at (d ∷ taken) k) same ∙ found
-  | inr other ↦ entry_at-behind d (taken ++ rest) n other ∙ entry_at-front taken rest n e (sym (entry_at-behind d taken n other) ∙ found)
-]
-
--- entries of which the same is looked up are the same
-pub rise-alike : (above : ℕ) (xs ys : List Entry) (next : ℕ) → NumbersRise above xs next → NumbersRise above ys next → ((n : ℕ) → entry_at xs n ≡ entry_at ys n) → xs ≡ ys
-rise-alike above [] [] next h k told = refl
-rise-alike above [] (y ∷ ys) next h k told = let found : None ≡ Some y = told y.number ∙ entry_at-first y ys in absurd cc
-rise-alike above (x ∷ xs) [] next h k told = let found : Some x ≡ None = sym (entry_at-first x xs) ∙ told x.number in absurd cc
-rise-alike above (x ∷ xs) (y ∷ ys) next h k told =
-    let numbers : x.number ≡ y.number = one x xs y ys next h.1 k.1 told in
-    let first : Some x ≡ Some y = sym (entry_at-first x xs) ∙ told x.number ∙ ap (λ (n : ℕ). entry_at (y ∷ ys) n) numbers ∙ entry_at-first y ys in
-    let same : x ≡ y = cc in
-    let behind : NumbersRise x.number ys next = subst (λ (n : ℕ). NumbersRise n ys next) (sym numbers) k.1 in
-    let rest : xs ≡ ys = rise-alike x.number xs ys next h.1 behind (λ n. left x xs y ys next h.1 behind numbers told n) in
-    λ i. same i ∷ rest i
-  where
-    -- the one that comes first isn't among the others
-    missing : (x : Entry) (xs : List Entry) (y : Entry) (ys : List Entry) (next : ℕ) → NumbersRise y.number ys next → ((n : ℕ) → entry_at (x ∷ xs) n ≡ entry_at (y ∷ ys) n) → x.number < y.number → ⊥
-    missing x xs y ys next k told less =
-        let found : Some x ≡ None = sym (entry_at-first x xs) ∙ told x.number ∙ entry_at-behind y ys x.number (λ same. omega arith) ∙ entry_at-low y.number ys next x.number k (omega arith) in
-        cc
-
-    one : (x : Entry) (xs : List Entry) (y : Entry) (ys : List Entry) (next : ℕ) → NumbersRise x.number xs next → NumbersRise y.number ys next → ((n : ℕ) → entry_at (x ∷ xs) n ≡ entry_at (y ∷ ys) n) → x.number ≡ y.number
-    one x xs y ys next h k told = elim (same-or-not x.number y.number) [
-      | inl same ↦ same
-      | inr other ↦ absurd (elim (less-or-more x.number y.number other) [
-        | inl less ↦ missing x xs y ys next k told less
-        | inr more ↦ missing y ys x xs next h (λ n. sym (told n)) more
-      ])
-    ]
-
-    left : (x : Entry) (xs : List Entry) (y : Entry) (ys : List Entry) (next : ℕ) → NumbersRise x.number xs next → NumbersRise x.number ys next → x.number ≡ y.number → ((n : ℕ) → entry_at (x ∷ xs) n ≡ entry_at (y ∷ ys) n) → (n : ℕ) → entry_at xs n ≡ entry_at ys n
-    left x xs y ys next h k numbers told n = elim (same-or-not x.number n) [
-      | inl same ↦ entry_at-low x.number xs next n h (omega arith) ∙ sym (entry_at-low x.number ys next n k (omega arith))
-      | inr other ↦ sym (entry_at-behind x xs n other) ∙ told n ∙ entry_at-behind y ys n (λ same. other (numbers ∙ same))
-    ]
 
 -- the entries of numbers rise
 below-rises : (k : ℕ) (at : ℕ → Option Entry) → IsNumbered at → at 0 ≡ None → NumbersRise 0 (entries_below (suc k) at) (suc k)
@@ -114,4 +70,4 @@ below-risen zero at es numbered none rise above told = absurd (no-room 0 es rise
     no-room : (above : ℕ) (es : List Entry) → NumbersRise above es 0 → ⊥
     no-room above [] h = omega arith
     no-room above (e ∷ es) h = no-room e.number es h.1
-below-risen (suc k) at es numbered none rise above told = rise-alike 0 (entries_below (suc k) at) es (suc k) (below-rises k at numbered none) rise (λ n. below-all (suc k) at n numbered above ∙ told n)
+below-risen (suc k) at es numbered none rise above told = entries-told 0 (entries_below (suc k) at) es (suc k) (below-rises k at numbered none) rise (λ n. below-all (suc k) at n numbered above ∙ told n)

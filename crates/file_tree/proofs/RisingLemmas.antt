@@ -1,17 +1,9 @@
 -- Lists of numbers that rise.
-use Rattle.std.proofs.Common.{◌≡◌, ℕ, suc, ◌+◌, ◌<◌, ◌≤◌, Bool, true, false, List, [], ◌∷◌, subst, refl, ap, sym, ◌∙◌, arith, inl, inr, eq-eqb, ne_eqb}
-use Rattle.std.specs.Prelude.{◌==◌, ◌||◌, slice_index}
-use Rattle.std.specs.List.Sorted.{IsStrictlyIncreasing}
-use Rattle.std.proofs.lemmas.Bool.{cases_eq, cases_lt, cases_order}
+use Rattle.std.proofs.Common.{◌≡◌, ℕ, ◌+◌, ◌<◌, Bool, true, false, List, [], ◌∷◌, refl, ap, sym, ◌∙◌, arith, inl, inr, eq-eqb, ne_eqb}
+use Rattle.std.specs.Prelude.{◌||◌}
+use Rattle.std.proofs.lemmas.Bool.{cases_lt, cases_order}
 use Rattle.hac_model.specs.Tree.Links.{has}
 use Rattle.hac_model.specs.Tree.Valid.{RiseFrom}
-
-pub eqb-turned : (a b : ℕ) → (a == b) ≡ (b == a)
-eqb-turned a b =
-    elim (cases_eq a b) [
-      | inl same ↦ eq-eqb a b same ∙ sym (eq-eqb b a (sym same))
-      | inr differ ↦ ne_eqb a b differ ∙ sym (ne_eqb b a (λ same. differ (sym same)))
-    ]
 
 pub has-first : (n : ℕ) (ns : List ℕ) → has (n ∷ ns) n ≡ true
 has-first n ns = ap (λ (b : Bool). b || has ns n) (eq-eqb n n refl)
@@ -22,11 +14,6 @@ has-low bound [] k rise less = refl
 has-low bound (n ∷ ns) k rise less =
     let above : k < n = omega (arith, less, rise.0) in
     ap (λ (b : Bool). b || has ns k) (ne_eqb n k (λ same. omega (arith, above, same))) ∙ has-low (n + 1) ns k rise.1 (omega (arith, above))
-
--- what rises from a number rises from a lower one
-pub rise-lower : (low high : ℕ) (ns : List ℕ) → low ≤ high → RiseFrom high ns → RiseFrom low ns
-rise-lower low high [] less rise = tt
-rise-lower low high (n ∷ ns) less rise = (omega (arith, less, rise.0), rise.1)
 
 -- two lists of numbers that rise are one, where they have the same numbers
 pub rising-one : (low high : ℕ) (ms ns : List ℕ) → RiseFrom low ms → RiseFrom high ns → ((k : ℕ) → has ms k ≡ has ns k) → ms ≡ ns
@@ -48,14 +35,3 @@ rising-one low high (m ∷ ms) (n ∷ ns) h k same =
           ∙ ap (λ (b : Bool). b || has ns x) (ne_eqb n x (λ other. omega (arith, above, is, other)))
       | inr low ↦ has-low (m + 1) ms x h.1 (omega (arith, low)) ∙ sym (has-low (n + 1) ns x k.1 (omega (arith, low, is)))
     ]
-
--- each number is below the next
-pub steps-rise : (bound : ℕ) (ns : List ℕ) → ((n : ℕ) (more : List ℕ) → ns ≡ n ∷ more → bound ≤ n) → IsStrictlyIncreasing ns → RiseFrom bound ns
-steps-rise bound [] low h = tt
-steps-rise bound (n ∷ []) low h = (low n [] refl, tt)
-steps-rise bound (n ∷ m ∷ ns) low h = (
-  low n (m ∷ ns) refl,
-  steps-rise (n + 1) (m ∷ ns)
-      (λ k more is. let same : m ≡ k = cc in let less : n < m = h 0 (omega arith) in omega arith)
-      (λ k inside. subst (λ (j : ℕ). slice_index (m ∷ ns) k < slice_index (n ∷ m ∷ ns) j) {x = suc k + 1} {y = suc (k + 1)} (omega arith) (h (suc k) (omega arith))),
-)

@@ -1,15 +1,15 @@
 -- The lists of children after an entry came, went or was edited, given the entry, the name and the children of each
 -- number.
-use Rattle.std.proofs.Common.{◌≡◌, ℕ, ◌<◌, ◌≤◌, Bool, true, false, cond, List, [], subst, refl, ap, sym, ◌∙◌, arith, inl, inr, eq-eqb}
-use Rattle.std.specs.Prelude.{◌⊎◌, nat_eq, insert, remove, Option, Some, None}
+use Rattle.std.proofs.Common.{◌≡◌, ℕ, ◌<◌, ◌≤◌, true, false, cond, List, [], subst, refl, ap, sym, ◌∙◌, arith, inl, inr}
+use Rattle.std.specs.Prelude.{nat_eq, insert, remove, Option, Some, None}
 use Rattle.std.specs.Str.{bytes_eq}
-use Rattle.std.proofs.lemmas.Bool.{eqb-true, ne_eqb}
+use Rattle.std.proofs.lemmas.Bool.{cases_eq}
 use Rattle.hac_model.specs.Tree.Depends.{Among}
 use Rattle.hac_model.specs.declared.states.Entry.{Entry}
 use Rattle.tree_nodes.specs.Nodes.{set_at, parent_in}
 use Rattle.tree_nodes.specs.Search.{rank_in, NamesRise}
 use Rattle.file_tree.specs.Shape.{AreNested}
-use Rattle.tree_nodes.proofs.SetLemmas.{same-or-not, set-here, set-there}
+use Rattle.tree_nodes.proofs.SetLemmas.{set-here, set-there}
 use Rattle.tree_nodes.proofs.ListLemmas.{among-inserted, among-without, inserted-among, kept-among, rank-same, remove-rank, rises-insert, rises-same, rises-without, without, without-among}
 
 pub none-standing : (found : Option Entry) → parent_in found ≡ None → found ≡ None
@@ -50,7 +50,7 @@ tree-unlinked next at names kids n dir h stands = record {
     none-at q none = elim (nat_eq n q) as (λ b. cond b None (at q) ≡ None) [ true ↦ refl | false ↦ none ]
 
     fresh : (d : ℕ) → next ≤ d → set_at dir (remove (kids dir) (rank_in names (names n) (kids dir))) kids d ≡ []
-    fresh d high = elim (same-or-not dir d) [
+    fresh d high = elim (cases_eq dir d) [
       | inl same ↦
           (let none : kids dir ≡ [] = h.fresh dir (omega arith) in
           absurd (subst (λ (ns : List ℕ). Among ns n) none member))
@@ -58,7 +58,7 @@ tree-unlinked next at names kids n dir h stands = record {
     ]
 
     left : (d q : ℕ) → Among (set_at dir (remove (kids dir) (rank_in names (names n) (kids dir))) kids d) q → Among (kids d) q × (n ≡ q → ⊥)
-    left d q among = elim (same-or-not dir d) [
+    left d q among = elim (cases_eq dir d) [
       | inl same ↦
           (let here : set_at dir (remove (kids dir) (rank_in names (names n) (kids dir))) kids d ≡ without names n (kids dir) =
           ap (λ (k : ℕ). set_at dir (remove (kids dir) (rank_in names (names n) (kids dir))) kids k) (sym same) ∙ set-here dir (remove (kids dir) (rank_in names (names n) (kids dir))) kids ∙ gone in
@@ -75,13 +75,13 @@ tree-unlinked next at names kids n dir h stands = record {
         ap parent_in (set-there n None at q rest.1) ∙ h.listed d q rest.0
 
     lists : (d q : ℕ) → parent_in (set_at n None at q) ≡ Some d → Among (set_at dir (remove (kids dir) (rank_in names (names n) (kids dir))) kids d) q
-    lists d q there = elim (same-or-not n q) [
+    lists d q there = elim (cases_eq n q) [
       | inl same ↦
           (let none : parent_in (set_at n None at q) ≡ None = ap (λ (k : ℕ). parent_in (set_at n None at k)) (sym same) ∙ ap parent_in (set-here n None at) in
           absurd cc)
       | inr other ↦
           (let old : Among (kids d) q = h.lists d q (sym (ap parent_in (set-there n None at q other)) ∙ there) in
-          elim (same-or-not dir d) [
+          elim (cases_eq dir d) [
             | inl same ↦ subst (λ (ns : List ℕ). Among ns q) (sym (ap (λ (k : ℕ). set_at dir (remove (kids dir) (rank_in names (names n) (kids dir))) kids k) (sym same) ∙ set-here dir (remove (kids dir) (rank_in names (names n) (kids dir))) kids ∙ gone)) (without-among names n (kids dir) q (subst (λ (k : ℕ). Among (kids k) q) (sym same) old) other)
             | inr differs ↦ subst (λ (ns : List ℕ). Among ns q) (sym (set-there dir (remove (kids dir) (rank_in names (names n) (kids dir))) kids d differs)) old
           ])
@@ -123,7 +123,7 @@ tree-linked next more at names kids n dir e name h new positive low grows inside
     list-here d same = ap (λ (k : ℕ). set_at dir (insert (kids dir) (rank_in names name (kids dir)) n) kids k) (sym same) ∙ set-here dir (insert (kids dir) (rank_in names name (kids dir)) n) kids
 
     listed : (d q : ℕ) → Among (set_at dir (insert (kids dir) (rank_in names name (kids dir)) n) kids d) q → parent_in (set_at n (Some e) at q) ≡ Some d
-    listed d q among = elim (same-or-not dir d) [
+    listed d q among = elim (cases_eq dir d) [
       | inl same ↦
           (let here = subst (λ (ns : List ℕ). Among ns q) (list-here d same) among in
           elim (among-inserted (kids dir) (rank_in names name (kids dir)) n q here) [
@@ -134,14 +134,14 @@ tree-linked next more at names kids n dir e name h new positive low grows inside
     ]
 
     lists : (d q : ℕ) → parent_in (set_at n (Some e) at q) ≡ Some d → Among (set_at dir (insert (kids dir) (rank_in names name (kids dir)) n) kids d) q
-    lists d q there = elim (same-or-not n q) [
+    lists d q there = elim (cases_eq n q) [
       | inl is ↦
           (let both : Some dir ≡ Some d = sym (own q is) ∙ there in
           let same : dir ≡ d = cc in
           subst (λ (ns : List ℕ). Among ns q) (sym (list-here d same)) (subst (λ (k : ℕ). Among (insert (kids dir) (rank_in names name (kids dir)) n) k) is (inserted-among (kids dir) (rank_in names name (kids dir)) n)))
       | inr differs ↦
           (let among : Among (kids d) q = h.lists d q (sym (ap parent_in (set-there n (Some e) at q differs)) ∙ there) in
-          elim (same-or-not dir d) [
+          elim (cases_eq dir d) [
             | inl same ↦ subst (λ (ns : List ℕ). Among ns q) (sym (list-here d same)) (kept-among (kids dir) (rank_in names name (kids dir)) n q (subst (λ (k : ℕ). Among (kids k) q) (sym same) among))
             | inr other ↦ subst (λ (ns : List ℕ). Among ns q) (sym (set-there dir (insert (kids dir) (rank_in names name (kids dir)) n) kids d other)) among
           ])

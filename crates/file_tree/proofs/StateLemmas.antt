@@ -1,10 +1,10 @@
 -- What a tree keeps after a change, given what is under each number before and after.
 use Rattle.std.proofs.Common.{◌≡◌, ℕ, ◌+◌, ◌<◌, ◌≤◌, Bool, true, false, cond, List, [], length, subst, refl, ap, sym, ◌∙◌, arith, inl, inr}
-use Rattle.std.specs.Prelude.{◌⊎◌, nat_eq, insert, remove, Option, Some, None, IsSome}
+use Rattle.std.specs.Prelude.{nat_eq, insert, remove, Option, Some, None, IsSome}
 use Rattle.std.specs.Option.{option_map}
 use Rattle.std.specs.Str.{bytes_eq}
 use Rattle.std.proofs.lemmas.Slice.Eq.{bytes_eq-Decides}
-use Rattle.std.proofs.lemmas.Bool.{ne_eqb}
+use Rattle.std.proofs.lemmas.Bool.{cases_Bool, cases_eq, ne_eqb}
 use Rattle.hac_model.specs.Tree.Depends.{Among}
 use Rattle.hac_model.specs.Tree.Events.{added, changed_at, edited, removed, reseated}
 use Rattle.hac_model.specs.Tree.{child, entry_at, is_directory_at, path_of}
@@ -25,7 +25,7 @@ use Rattle.file_tree.proofs.ChildLemmas.{entry-node, name-told, parent-told}
 use Rattle.tree_nodes.proofs.ListLemmas.{none-among, rank-inside}
 use Rattle.file_tree.proofs.ReadLemmas.{entry_of-number, none-there, seen-at, seen-entry}
 use Rattle.file_tree.proofs.ShapeLemmas.{none-standing, tree-linked, tree-same, tree-unlinked}
-use Rattle.tree_nodes.proofs.SetLemmas.{same-or-not, set-here, set-there}
+use Rattle.tree_nodes.proofs.SetLemmas.{set-here, set-there}
 
 abbrev pub state_with : Version → ℕ → List Entry → State
 state_with version next entries = record { version = version; next = next; entries = entries; sessions = [] }
@@ -135,10 +135,6 @@ apart u layout above m n e f found other parents names =
     ∙ child-own (state_of u).entries n f layout.differ (below-all u.next (entry_of u.nodes) n (entry_of-number u.nodes) above ∙ other) in
     cc
 
-pub true-or-false : (b : Bool) → (b ≡ true) ⊎ (b ≡ false)
-true-or-false true = inl refl
-true-or-false false = inr refl
-
 module _ (t : Inside) (s : Seen) (view : seen_of t ≡ s) (h : IsShaped t) (u : Inside) where
   -- an entry is added
   pub shaped-added : (dir : ℕ) (name : List ℕ) (body : Body) → u.next ≡ t.next + 1 → u.version ≡ t.version → ((n : ℕ) → entry_of u.nodes n ≡ set_at t.next (Some (record { number = t.next; parent = dir; name = name; body = body })) (entry_of t.nodes) n) →
@@ -173,7 +169,7 @@ module _ (t : Inside) (s : Seen) (view : seen_of t ≡ s) (h : IsShaped t) (u : 
       above n high = let more : t.next + 1 ≤ n = subst (λ (k : ℕ). k ≤ n) next high in told n ∙ set-there t.next (Some new) (entry_of t.nodes) n (λ same. omega arith) ∙ h.lists.above n (omega arith)
 
       free : (m : ℕ) → Among (kids_of t.nodes dir) m → bytes_eq (name_of t.nodes m) name ≡ false
-      free m among = elim (true-or-false (bytes_eq (name_of t.nodes m) name)) [
+      free m among = elim (cases_Bool (bytes_eq (name_of t.nodes m) name)) [
         | inr other ↦ other
         | inl same ↦
             (let found = parent-told (entry_of t.nodes m) dir (h.lists.listed dir m among) in
@@ -200,7 +196,7 @@ module _ (t : Inside) (s : Seen) (view : seen_of t ≡ s) (h : IsShaped t) (u : 
     layout = sound;
     root = numbers 0 ∙ set-there n false (has_node t.nodes) 0 (λ root. none-there (ap (λ (k : ℕ). entry_of t.nodes k) root ∙ h.lists.root) (subst IsSome (sym entry.1) refl)) ∙ h.root;
     spare = spare;
-    others = λ q root ahead gone. numbers q ∙ (elim (same-or-not n q) [
+    others = λ q root ahead gone. numbers q ∙ (elim (cases_eq n q) [
       | inl same ↦ ap (λ (k : ℕ). set_at n false (has_node t.nodes) k) (sym same) ∙ set-here n false (has_node t.nodes)
       | inr other ↦ set-there n false (has_node t.nodes) q other ∙ h.others q root (subst (λ (k : ℕ). q < k) next ahead) (sym (set-there n None (entry_of t.nodes) q other) ∙ sym (told q) ∙ gone)
     ]);
@@ -246,7 +242,7 @@ module _ (t : Inside) (s : Seen) (view : seen_of t ≡ s) (h : IsShaped t) (u : 
               cc
 
       bare : (d : ℕ) → set_at n [] cut d ≡ cut d
-      bare d = elim (same-or-not n d) [
+      bare d = elim (cases_eq n d) [
         | inl same ↦
             (let empty : kids_of t.nodes d ≡ [] = ap (λ (k : ℕ). kids_of t.nodes k) (sym same) ∙ none-among (kids_of t.nodes n) nothing in
             ap (λ (k : ℕ). set_at n [] cut k) (sym same) ∙ set-here n [] cut
@@ -304,7 +300,7 @@ module _ (t : Inside) (s : Seen) (view : seen_of t ≡ s) (h : IsShaped t) (u : 
       there q other = told q ∙ set-there n (option_map (reseated dir name) (entry_of t.nodes q)) (entry_of t.nodes) q other
 
       parents : (q : ℕ) → parent_in (entry_of u.nodes q) ≡ parent_in (set_at n (Some new) (set_at n None (entry_of t.nodes)) q)
-      parents q = ap parent_in (elim (same-or-not n q) [
+      parents q = ap parent_in (elim (cases_eq n q) [
         | inl same ↦
             ap (λ (k : ℕ). entry_of u.nodes k) (sym same) ∙ here ∙ sym (set-here n (Some new) (set_at n None (entry_of t.nodes)))
             ∙ ap (λ (k : ℕ). set_at n (Some new) (set_at n None (entry_of t.nodes)) k) same
@@ -317,7 +313,7 @@ module _ (t : Inside) (s : Seen) (view : seen_of t ≡ s) (h : IsShaped t) (u : 
           tree-same t.next (set_at n None (entry_of t.nodes)) (set_at n None (entry_of t.nodes)) (name_of t.nodes) (name_of t.nodes) (set_at old (remove (kids_of t.nodes old) (rank_in (name_of t.nodes) (name_of t.nodes n) (kids_of t.nodes old))) (kids_of t.nodes)) cut known (λ q. refl) (λ d q there. refl) left
 
       free : (m : ℕ) → Among (cut dir) m → bytes_eq (name_of t.nodes m) name ≡ false
-      free m among = elim (true-or-false (bytes_eq (name_of t.nodes m) name)) [
+      free m among = elim (cases_Bool (bytes_eq (name_of t.nodes m) name)) [
         | inr other ↦ other
         | inl same ↦
             (let told_so : parent_in (set_at n None (entry_of t.nodes) m) ≡ Some dir = unlinked.listed dir m among in
@@ -328,7 +324,7 @@ module _ (t : Inside) (s : Seen) (view : seen_of t ≡ s) (h : IsShaped t) (u : 
       ]
 
       positive : 0 < n
-      positive = elim (same-or-not n 0) [
+      positive = elim (cases_eq n 0) [
         | inl root ↦
             (let none : entry_of t.nodes n ≡ None = ap (λ (k : ℕ). entry_of t.nodes k) root ∙ h.lists.root in
             let some : entry_of t.nodes n ≡ Some entry.0 = entry.1 in

@@ -1,15 +1,14 @@
 -- Steps over parents, and where they lead.
-use Rattle.std.proofs.Common.{◌≡◌, ℕ, suc, ◌+◌, ◌-◌, ◌<◌, Bool, true, false, List, ◌∷◌, map, refl, ap, sym, ◌∙◌, arith, inl, inr}
-use Rattle.std.specs.Prelude.{◌==◌, ◌||◌, Option, Some, None, IsTrue, is_some, reverse}
+use Rattle.std.proofs.Common.{◌≡◌, ℕ, suc, ◌+◌, ◌-◌, ◌<◌, Bool, List, ◌∷◌, map, refl, ap, sym, ◌∙◌, arith}
+use Rattle.std.specs.Prelude.{◌==◌, ◌||◌, Some, IsTrue, reverse}
 use Rattle.std.specs.List.{list_any}
-use Rattle.std.proofs.lemmas.Bool.{eqb-true}
 use Rattle.hac_model.specs.Tree.{ancestors, entry_at, extends, lineage, path_of}
 use Rattle.hac_model.specs.Tree.Valid.{IsLayout}
 use Rattle.hac_model.specs.declared.limits.TheConstants.{PATH_LIMIT}
 use Rattle.hac_model.specs.declared.states.Entry.{Entry}
 use Rattle.hac_model.specs.declared.states.State.{State}
-use Rattle.hac_model.proofs.PathLemmas.{ancestors-none, ancestors-step, extends-parent, extends-root, from_root, lineage-parent, root-none}
-use Rattle.hac_model.proofs.TreeLemmas.{Lives}
+use Rattle.hac_model.proofs.PathLemmas.{ancestors-none, ancestors-step, extends-parent, extends-root, from_root, lineage-parent, lineage-steps, root-none}
+use Rattle.hac_model.proofs.TreeLemmas.{is-live}
 use Rattle.hac_model.specs.Tree.{is_live}
 
 -- one step leads from an entry to its directory
@@ -18,24 +17,9 @@ ancestors-next steps es n e some found =
     let more : steps ≡ suc (steps - 1) = omega arith in
     ap (λ (k : ℕ). ancestors k es n) more ∙ ancestors-step (steps - 1) es n e found
 
-pub lineage-steps : (es : List Entry) (n : ℕ) → ancestors (PATH_LIMIT + 1) es n ≡ lineage es n
-unfolding lineage
-lineage-steps es n = refl
-
 pub path-steps : (s : State) (n : ℕ) → reverse (map (λ (e : Entry). e.name) (ancestors (PATH_LIMIT + 1) s.entries n)) ≡ path_of s n
 unfolding lineage path_of
 path-steps s n = refl
-
-pub live-lives : (es : List Entry) (n : ℕ) → is_live es n ≡ true → Lives es n
-live-lives es n h =
-    elim (n == 0) as (λ b. (n == 0) ≡ b → (b || is_some (entry_at es n)) ≡ true → Lives es n) [
-      | true ↦ (λ root h. inl (eqb-true n 0 root))
-      | false ↦ (λ root h. inr (there (entry_at es n) refl h))
-    ] refl h
-  where
-    there : (o : Option Entry) → entry_at es n ≡ o → is_some o ≡ true → (e : Entry) × (entry_at es n ≡ Some e)
-    there None found h = absurd cc
-    there (Some e) found h = (e, found)
 
 -- steps over parents lead to a directory from what is below it, and from nothing else
 pub steps-extend : (s : State) (item dir : ℕ) → IsLayout s → IsTrue (is_live s.entries item) → IsTrue (is_live s.entries dir) → list_any (λ (e : Entry). e.parent == dir) (ancestors (PATH_LIMIT + 1) s.entries item) ≡ extends (path_of s item) (path_of s dir)
@@ -46,8 +30,8 @@ steps-extend s item dir h live lives =
     (λ n e found known.
     ap (list_any stands) (lineage-parent s n e h found)
     ∙ ap (λ (b : Bool). e.parent == dir || b) known
-    ∙ sym (extends-parent s n dir e h (live-lives s.entries dir lives) found))
-    item (live-lives s.entries item live)
+    ∙ sym (extends-parent s n dir e h (is-live s.entries dir lives) found))
+    item (is-live s.entries item live)
   where
     stands : Entry → Bool
     stands e = e.parent == dir

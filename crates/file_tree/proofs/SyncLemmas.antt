@@ -3,7 +3,7 @@ use Rattle.std.proofs.Common.{◌≡◌, ℕ, ◌+◌, ◌<◌, ◌≤◌, Bool,
 use Rattle.std.specs.Prelude.{◌==◌, ◌&&◌, not, filter, if◌then◌else◌, IsTrue, Option, Some, None}
 use Rattle.std.specs.Option.{option_map, option_map_or, option_to_list}
 use Rattle.std.proofs.lemmas.Slice.Eq.{bytes_eq-Decides}
-use Rattle.std.proofs.lemmas.Bool.{and_parts, cases_lt, ne_eqb}
+use Rattle.std.proofs.lemmas.Bool.{and_parts, cases_eq, cases_lt, ne_eqb}
 use Rattle.std.proofs.lemmas.List.Elements.{filter-append}
 use Rattle.std.proofs.Math.Bool.{and-false}
 use Rattle.hac_model.specs.Tree.Depends.{Among}
@@ -22,14 +22,15 @@ use Rattle.tree_nodes.specs.Nodes.{entry_of, has_node, kids_of, name_of, set_at,
 use Rattle.file_tree.specs.declared.tree.Tree.TheInside.{Inside}
 use Rattle.file_tree.proofs.BelowLemmas.{below-made, below-more}
 use Rattle.file_tree.proofs.ChildLemmas.{child-named, name-told, named-member, parent-told}
-use Rattle.tree_nodes.proofs.FoundLemmas.{among-has, has-among, has-not}
+use Rattle.tree_nodes.proofs.FoundLemmas.{has-not}
 use Rattle.tree_nodes.proofs.ListLemmas.{none-among}
 use Rattle.file_tree.proofs.NestLemmas.{IsSynced, goes, tree-synced}
 use Rattle.tree_nodes.proofs.OverLemmas.{dirty_in, follow-same, long, named-follow, named-low, names-same, over-clean, over-follow, over-high, over-inside, over-low}
 use Rattle.file_tree.proofs.ReadLemmas.{seen-entry}
-use Rattle.tree_nodes.proofs.SetLemmas.{same-or-not, set-here, set-there}
+use Rattle.tree_nodes.proofs.SetLemmas.{set-here, set-there}
 use Rattle.file_tree.proofs.ShapeLemmas.{tree-same}
 use Rattle.file_tree.proofs.StateLemmas.{state_with}
+use Rattle.hac_model.proofs.AmongLemmas.{among-has, has-among}
 
 mount-in : (o : Option Entry) → option_map_or is_mount (option_map (λ (e : Entry). e.body) o) false ≡ true → (e : Entry) × (o ≡ Some e) × (is_mount e.body ≡ true)
 mount-in None is = absurd cc
@@ -183,7 +184,7 @@ module _ (t : Inside) (h : IsShaped t) (mount : ℕ) (is : is_mount_at (state_of
 
     -- the test of an entry says the same
     leaves-told : (q : ℕ) (e : Entry) → entry_of t.nodes q ≡ Some e → leaves q ≡ is_gone mount xs e
-    leaves-told q e found = elim (same-or-not e.parent mount) [
+    leaves-told q e found = elim (cases_eq e.parent mount) [
       | inl same ↦
           (let in_it : has (kids_of t.nodes mount) q ≡ true = among-has (kids_of t.nodes mount) q (h.lists.lists mount q (ap parent_in found ∙ ap (λ (d : ℕ). Some d) same)) in
           let test : (e.parent == mount) ≡ true = eq-eqb e.parent mount same in
@@ -255,7 +256,7 @@ module _ (t : Inside) (h : IsShaped t) (mount : ℕ) (is : is_mount_at (state_of
             where
               -- a document that goes has no list
               list : (d : ℕ) → set_at mount (numbers_from find t.next xs) (λ n. cond (leaves n) [] (set_at mount [] (kids_of t.nodes) n)) d ≡ set_at mount (numbers_from find t.next xs) (kids_of t.nodes) d
-              list d = elim (same-or-not mount d) [
+              list d = elim (cases_eq mount d) [
                 | inl same ↦
                     ap (λ (k : ℕ). set_at mount (numbers_from find t.next xs) (λ n. cond (leaves n) [] (set_at mount [] (kids_of t.nodes) n)) k) (sym same)
                     ∙ set-here mount (numbers_from find t.next xs) (λ n. cond (leaves n) [] (set_at mount [] (kids_of t.nodes) n))

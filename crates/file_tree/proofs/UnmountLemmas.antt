@@ -1,7 +1,7 @@
 -- What a tree keeps when a mount goes with its documents, given what is under each number before and after.
 use Rattle.std.proofs.Common.{◌≡◌, ℕ, ◌+◌, ◌<◌, Bool, true, false, cond, List, [], length, subst, refl, ap, sym, ◌∙◌, arith, inl, inr, eq-eqb}
 use Rattle.std.specs.Prelude.{◌==◌, ◌&&◌, ◌||◌, not, filter, remove, nat_eq, Option, Some, None}
-use Rattle.std.proofs.lemmas.Bool.{ne_eqb}
+use Rattle.std.proofs.lemmas.Bool.{cases_eq, ne_eqb}
 use Rattle.hac_model.specs.Tree.Depends.{Among}
 use Rattle.hac_model.specs.Tree.Links.{has}
 use Rattle.hac_model.specs.Tree.Mounting.{is_of_mount, without_such}
@@ -12,14 +12,15 @@ use Rattle.file_tree.specs.Shape.{entries_below, AreNested, HasNoOther, HasSpare
 use Rattle.tree_nodes.specs.Nodes.{entry_of, has_node, kids_of, name_of, set_at, parent_in}
 use Rattle.tree_nodes.specs.Search.{rank_in}
 use Rattle.file_tree.specs.declared.tree.Tree.TheInside.{Inside}
-use Rattle.tree_nodes.proofs.FoundLemmas.{among-has, has-among, has-not}
+use Rattle.tree_nodes.proofs.FoundLemmas.{has-not}
 use Rattle.file_tree.proofs.NestLemmas.{IsSynced, tree-synced}
 use Rattle.tree_nodes.proofs.OverLemmas.{dirty_in}
 use Rattle.file_tree.proofs.ReadLemmas.{entry_of-number}
-use Rattle.tree_nodes.proofs.SetLemmas.{same-or-not, set-here, set-there}
+use Rattle.tree_nodes.proofs.SetLemmas.{set-here, set-there}
 use Rattle.file_tree.proofs.ShapeLemmas.{tree-same, tree-unlinked}
 use Rattle.file_tree.proofs.StateLemmas.{state_with}
 use Rattle.file_tree.proofs.SyncLemmas.{below-left, document-bare, dropped-clean, find, find-member, find-own, leaves, leaves-in, member, mount-clean, mount-entry, mount-low, mount-outside, root-outside, stays-by}
+use Rattle.hac_model.proofs.AmongLemmas.{among-has, has-among}
 
 module _ (t : Inside) (h : IsShaped t) (mount : ℕ) (is : is_mount_at (state_of t).entries mount ≡ true) (dir : ℕ) (stands : parent_in (entry_of t.nodes mount) ≡ Some dir) where
   -- what goes with the mount
@@ -64,13 +65,13 @@ module _ (t : Inside) (h : IsShaped t) (mount : ℕ) (is : is_mount_at (state_of
           ap (λ (b : Bool). b || (e.parent == mount)) number ∙ ap (λ (b : Bool). nat_eq mount q || b) parent
         where
           number : (e.number == mount) ≡ nat_eq mount q
-          number = elim (same-or-not mount q) [
+          number = elim (cases_eq mount q) [
             | inl same ↦ eq-eqb e.number mount (entry_of-number t.nodes q e found ∙ sym same) ∙ sym (eq-eqb mount q same)
             | inr other ↦ ne_eqb e.number mount (λ same. other (sym same ∙ entry_of-number t.nodes q e found)) ∙ sym (ne_eqb mount q other)
           ]
 
           parent : (e.parent == mount) ≡ inside q
-          parent = elim (same-or-not e.parent mount) [
+          parent = elim (cases_eq e.parent mount) [
             | inl same ↦
                 eq-eqb e.parent mount same
                 ∙ sym (ap (λ (b : Bool). b && true) (among-has (kids_of t.nodes mount) q (h.lists.lists mount q (ap parent_in found ∙ ap (λ (d : ℕ). Some d) same))))
@@ -94,7 +95,7 @@ module _ (t : Inside) (h : IsShaped t) (mount : ℕ) (is : is_mount_at (state_of
           λ i. state_with (m.version i) (m.next i) (all i)
 
       pub clean-unmounted : (q : ℕ) → dirty_in (entry_of u.nodes q) ≡ dirty_in (entry_of t.nodes q)
-      clean-unmounted q = ap dirty_in (m.entries q) ∙ (elim (same-or-not mount q) [
+      clean-unmounted q = ap dirty_in (m.entries q) ∙ (elim (cases_eq mount q) [
         | inl same ↦
             (let entry = mount-entry t h mount is in
             ap (λ (k : ℕ). dirty_in (set_at mount None emptied k)) (sym same) ∙ ap dirty_in (set-here mount None emptied)
@@ -139,7 +140,7 @@ module _ (t : Inside) (h : IsShaped t) (mount : ℕ) (is : is_mount_at (state_of
 
       -- the lists are those that are left
       lists : (d : ℕ) → kids_of u.nodes d ≡ set_at dir (remove (set_at mount [] (kids_of t.nodes) dir) (rank_in (name_of t.nodes) (name_of t.nodes mount) (set_at mount [] (kids_of t.nodes) dir))) (set_at mount [] (kids_of t.nodes)) d
-      lists d = m.lists d ∙ (elim (same-or-not mount d) [
+      lists d = m.lists d ∙ (elim (cases_eq mount d) [
         | inl same ↦
             ap (λ (k : ℕ). set_at mount [] (λ n. cond (inside n) [] (set_at mount [] cut n)) k) (sym same)
             ∙ set-here mount [] (λ n. cond (inside n) [] (set_at mount [] cut n))
@@ -149,7 +150,7 @@ module _ (t : Inside) (h : IsShaped t) (mount : ℕ) (is : is_mount_at (state_of
         | inr other ↦
             set-there mount [] (λ n. cond (inside n) [] (set_at mount [] cut n)) d other
             ∙ ap (λ (ns : List ℕ). cond (inside d) [] ns) (set-there mount [] cut d other)
-            ∙ (elim (same-or-not dir d) [
+            ∙ (elim (cases_eq dir d) [
               | inl here ↦
                   ap (λ (k : ℕ). cond (inside k) [] (cut k)) (sym here)
                   ∙ ap (λ (b : Bool). cond b [] (cut dir)) dir-stays

@@ -49,7 +49,7 @@ use Rattle.hac_model.specs.declared.versions.Version.TheVariants.{One, Two}
 use Rattle.hac_model.proofs.VersionLemmas.{apply_all-version}
 
 -- a valid state exceeds no limit on the tree
-valid-limits : (s : State) → IsValid s → first_passed (layout_limits s.version (counts s)) ≡ None
+pub valid-limits : (s : State) → IsValid s → first_passed (layout_limits s.version (counts s)) ≡ None
 valid-limits s h =
     let within : IsWithinLimits s = limits-within s h.layout.limits in
     first-before _ _ within.texts (first-before _ _ within.dirs (first-before _ _ within.semantics (first-before _ _ within.mounts (first-before _ _ within.symlinks (first-before _ _ (paths-short s.entries within.paths) none-passed)))))

@@ -117,7 +117,7 @@ added-edge s n e inside there = edge-told s n e (at (entry_at s.entries n) insid
     at (Some x) inside = body x.parent x.body inside
 
 -- what an edge leads to is a directory
-edge-directory : (s : State) (d e : ℕ) → IsValid s → Among (depends s d) e → is_directory_at s.entries e ≡ true
+pub edge-directory : (s : State) (d e : ℕ) → IsValid s → Among (depends s d) e → is_directory_at s.entries e ≡ true
 edge-directory s d e h edge = at (entry_at s.entries d) refl (told-edge s d e edge)
   where
     body : (x : Entry) → entry_at s.entries d ≡ Some x → (b : Body) → AsksWell s b → Among (facts_in (is_directory_at s.entries) x.parent b).edges e → is_directory_at s.entries e ≡ true

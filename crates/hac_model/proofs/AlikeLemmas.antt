@@ -10,14 +10,14 @@ use Rattle.hac_model.specs.Tree.Events.{are_directories, dirty, edited, is_empty
 use Rattle.hac_model.specs.Query.Formula.{Formula}
 use Rattle.hac_model.specs.Query.Formula as query
 use Rattle.hac_model.specs.Tree.Limits.{answer_limits, layout_limits, counts, first_passed, passed_limit, file_bytes}
-use Rattle.hac_model.specs.Tree.Links.{parent_of, query_at}
+use Rattle.hac_model.specs.Tree.Links.{is_item, parent_of, query_at, shown_of}
 use Rattle.hac_model.specs.Tree.Listing.{children, entry_line, in_order, is_before, letter, put_in_order}
 use Rattle.hac_model.specs.Tree.Looks.{final_path, has_names, link_at, link_to_follow, look, destination, next_path, next_path_behind, stands_at, stop_at, target_word, ways}
 use Rattle.hac_model.specs.Tree.Names.{is_name}
 use Rattle.hac_model.specs.Tree.Paths.{join, without_last}
 use Rattle.hac_model.specs.Query.Queries.{is_query}
 use Rattle.hac_model.specs.Run.Resolving.{directory_or_root, resolved_for, directory, entry, item_and_dir, listed_directory, numbered_query, place, resolved, wanted_entry, holder, mount_of, outside_mounts, own_entry, slot}
-use Rattle.hac_model.specs.Tree.{body_at, child, entry_at, extends, is_directory, is_directory_at, is_dirty, is_file, is_file_at, is_symlink, is_symlink_at, path_of, query_in, target_in, text_in, is_document, is_document_at, is_linkable, is_mount, is_mount_at}
+use Rattle.hac_model.specs.Tree.{body_at, child, entry_at, extends, is_directory, is_directory_at, is_dirty, is_document, is_document_at, is_file, is_file_at, is_linkable, is_mount, is_mount_at, is_symlink, is_symlink_at, path_of, query_in, shown_text, target_in, text_in}
 use Rattle.hac_model.specs.Tree.Valid.{IsLayout, IsSound, NamesDiffer, NumbersRise, is_in_place}
 use Rattle.hac_model.specs.declared.commands.Command.{Command}
 use Rattle.hac_model.specs.declared.commands.Command.TheVariants as command
@@ -29,12 +29,13 @@ use Rattle.hac_model.specs.declared.replies.Refusal.TheVariants.{Loop, NoPath, N
 use Rattle.hac_model.specs.declared.resolved.Resolved.{Resolved}
 use Rattle.hac_model.specs.declared.resolved.Resolved.TheVariants as done
 use Rattle.hac_model.specs.declared.states.Body.{Body}
-use Rattle.hac_model.specs.declared.states.Body.TheVariants.{Semantic, Mount}
+use Rattle.hac_model.specs.declared.states.Body.TheVariants.{Dir, Document, File, Mount, Semantic, Symlink}
 use Rattle.hac_model.specs.declared.states.Entry.{Entry}
 use Rattle.hac_model.specs.declared.states.State.{State}
 use Rattle.hac_model.proofs.CountLemmas.{is_queried, measured, measured-cons, one_if, keeps-linkable}
 use Rattle.hac_model.proofs.MapLemmas.{KeepsMeasures, mapped, mapped-layout, child-mapped, directory-mapped, entry_at-mapped, lineage-mapped, paths-mapped, test-mapped, place-mapped}
 use Rattle.hac_model.proofs.PathLemmas.{path-names}
+use Rattle.hac_model.proofs.ChangeLemmas.{all-weaker}
 
 -- Bodies without marks.
 
@@ -58,7 +59,7 @@ bare-mount (Semantic query permanent prohibited) = refl
 bare-mount (Mount space answers) = refl
 bare-mount other = refl
 
-bare-document : (body : Body) → is_document (bare_body body) ≡ is_document body
+pub bare-document : (body : Body) → is_document (bare_body body) ≡ is_document body
 bare-document (Semantic query permanent prohibited) = refl
 bare-document (Mount space answers) = refl
 bare-document other = refl
@@ -78,7 +79,7 @@ bare-target (Semantic query permanent prohibited) = refl
 bare-target (Mount space answers) = refl
 bare-target other = refl
 
-bare-dirty : (body : Body) → is_dirty (bare_body body) ≡ is_dirty body
+pub bare-dirty : (body : Body) → is_dirty (bare_body body) ≡ is_dirty body
 bare-dirty (Semantic query permanent prohibited) = refl
 bare-dirty (Mount space answers) = refl
 bare-dirty other = refl
@@ -373,10 +374,6 @@ differ-unmap : (es : List Entry) → NamesDiffer (map (edited bare_body) es) →
 differ-unmap [] h = tt
 differ-unmap (e ∷ es) h = (sym (child-mapped bare_body es e.parent e.name) ∙ h.0, differ-unmap es h.1)
 
-all-weaker : {X : Type 0} (P Q : X → Type 0) (xs : List X) → ((x : X) → P x → Q x) → AllByRecursion P xs → AllByRecursion Q xs
-all-weaker P Q [] f h = tt
-all-weaker P Q (x ∷ xs) f h = (f x h.0, all-weaker P Q xs f h.1)
-
 pub layout-unbare : (s : State) → IsLayout (bare s) → IsLayout s
 layout-unbare s h = record {
   numbers = numbers-unmap 0 s.entries s.next h.numbers;
@@ -399,3 +396,27 @@ layout-bare s h = record {
   where
     layout : IsLayout (mapped bare_body s)
     layout = mapped-layout bare_body s bare-measures sound-bare h
+
+-- a text is shown of the same items, and there are the same ones
+pub shown-bare : (s : State) (n : ℕ) → shown_of (bare s) n ≡ shown_of s n
+shown-bare s n = ap (λ (o : Option Entry). option_and_then shown_text (option_map (λ (e : Entry). e.body) o)) (entry_at-bare s n) ∙ at (entry_at s.entries n)
+  where
+    at : (o : Option Entry) → option_and_then shown_text (option_map (λ (e : Entry). e.body) (option_map (edited bare_body) o)) ≡ option_and_then shown_text (option_map (λ (e : Entry). e.body) o)
+    at None = refl
+    at (Some e) = body e.body
+      where
+        body : (b : Body) → shown_text (bare_body b) ≡ shown_text b
+        body (File text dirty shown) = refl
+        body Dir = refl
+        body (Symlink target) = refl
+        body (Semantic query permanent prohibited) = refl
+        body (Mount space answers) = refl
+        body Document = refl
+
+-- an item is a file or a document
+pub item-told : (s : State) (n : ℕ) → is_item s n ≡ (is_file_at s.entries n || is_document_at s.entries n)
+item-told s n = at (body_at s.entries n)
+  where
+    at : (o : Option Body) → option_map_or is_linkable o false ≡ (option_map_or is_file o false || option_map_or is_document o false)
+    at None = refl
+    at (Some body) = refl

@@ -8,23 +8,23 @@ use Rattle.std.proofs.Common.{◌≡◌, ℕ, Bool, true, false, List, [], ◌�
 use Rattle.std.specs.Prelude.{◌==◌, ◌||◌, not, filter, Option, Some, None, IsTrue}
 use Rattle.std.specs.Option.{option_map, option_map_or}
 use Rattle.std.specs.List.{AllByRecursion, list_all}
-use Rattle.std.proofs.lemmas.Bool.{and_parts, eqb-false, not-true}
+use Rattle.std.proofs.lemmas.Bool.{and_parts, eqb-false, not-true, or_parts, or_right}
 use Rattle.hac_model.specs.Tree.Depends.{named_in, refers_to}
 use Rattle.hac_model.specs.Tree.Events.{accepted, added, apply, asking, can_have_mark, changed_at, edited, forgetting, forgotten, indexed, is_possible, marked, may_ask, next_dirty, plain_body, removed, reseated, rewritten, without}
 use Rattle.hac_model.specs.Query.Formula.{Formula}
 use Rattle.hac_model.specs.Tree.Limits.{passed_limit}
 use Rattle.hac_model.specs.Tree.Links.{can_be_added, has, is_item}
-use Rattle.hac_model.specs.Tree.{body_at, entry_at, is_directory, is_directory_at, is_file_at, is_leaf_at, is_linkable, is_made_directory, permanent_in, query_in}
+use Rattle.hac_model.specs.Tree.{body_at, entry_at, is_directory, is_directory_at, is_file_at, is_leaf_at, is_linkable, is_made_directory, is_mount, permanent_in, query_in}
 use Rattle.hac_model.specs.Tree.Valid.{AreMarks, AsksWell, IsLayout, IsValid}
 use Rattle.hac_model.specs.declared.events.Event.{Event}
 use Rattle.hac_model.specs.declared.events.Event.TheVariants.{Mkdir, NewFile, Rewrite, Ln, Mark, Mv, Rm, Rmdir, Setq, Smkdir, Step, Unq, Cd}
 use Rattle.hac_model.specs.declared.marks.Kind.{Kind}
 use Rattle.hac_model.specs.declared.marks.Kind.TheVariants.{Transient, Permanent, Prohibited, Unlinked}
 use Rattle.hac_model.specs.declared.states.Body.{Body}
-use Rattle.hac_model.specs.declared.states.Body.TheVariants.{File, Dir, Symlink, Semantic}
+use Rattle.hac_model.specs.declared.states.Body.TheVariants.{Dir, Document, File, Mount, Semantic, Symlink}
 use Rattle.hac_model.specs.declared.states.Entry.{Entry}
 use Rattle.hac_model.specs.declared.states.State.{State}
-use Rattle.hac_model.proofs.ChangeLemmas.{all-append, all-both, all-changed, all-filter, all-weaker, directory-append, directory-changed, directory-kept, entry_at-append, entry_at-kept, is_kept, or-right, test-changed}
+use Rattle.hac_model.proofs.ChangeLemmas.{all-append, all-both, all-changed, all-filter, all-weaker, directory-append, directory-changed, directory-kept, entry_at-append, entry_at-kept, is_kept, test-changed}
 use Rattle.hac_model.proofs.CountLemmas.{indexed-keeps, keeps-linkable, rewritten-keeps}
 use Rattle.hac_model.proofs.MapLemmas.{all-map, directory-mapped, test-mapped}
 use Rattle.hac_model.proofs.MarkLemmas.{all-passes, forgetting-asks, marked-asks}
@@ -108,10 +108,6 @@ marking-stays s t n Permanent dirs items can = added-stays s t n dirs items can
 marking-stays s t n Transient dirs items can = added-stays s t n dirs items can
 marking-stays s t n Unlinked dirs items can = added-stays s t n dirs items can
 
-pub neither : (a b : Bool) → (a || b) ≡ false → (a ≡ false) × (b ≡ false)
-neither true b h = absurd cc
-neither false b h = (refl, h)
-
 -- directories and items of a state in which a body was edited
 pub edited-directories : (s : State) (n : ℕ) (edit : Body → Body) → ((body : Body) → is_directory (edit body) ≡ is_directory body) → DirectoriesStay s (changed_at s n (edited edit))
 edited-directories s n edit kind d there = directory-changed n (edited edit) s.entries d (λ e. refl) (λ e. kind e.body) ∙ there
@@ -170,7 +166,7 @@ unreferenced-asks : (s : State) (dir : ℕ) (e : Entry) → IsLayout s → is_ma
 unreferenced-asks s dir e h made apart asks = body e.body (not-true (refers_to dir e) apart) asks
   where
     there : is_directory_at s.entries dir ≡ true
-    there = or-right (dir == 0) (is_made_directory s.entries dir) made
+    there = or_right (dir == 0) (is_made_directory s.entries dir) made
 
     item : ItemsStay s (removed s dir)
     item n linked = ap (λ (o : Option Entry). option_map_or is_linkable (option_map (λ (e : Entry). e.body) o) false) (entry_at-kept dir s.entries n (λ same. item-no_directory s n dir h linked there (sym same))) ∙ linked
@@ -178,12 +174,12 @@ unreferenced-asks s dir e h made apart asks = body e.body (not-true (refers_to d
     other : (ns : List ℕ) → has ns dir ≡ false → AllByRecursion (λ n. dir ≡ n → ⊥) ns
     other [] apart = tt
     other (n ∷ ns) apart =
-        let parts = neither (n == dir) (has ns dir) apart in
+        let parts = or_parts (n == dir) (has ns dir) apart in
         (λ same. eqb-false n dir parts.0 (sym same), other ns parts.1)
 
     body : (b : Body) → (option_map_or (λ query. has (named_in query) dir) (query_in b) false || has (permanent_in b) dir) ≡ false → AsksWell s b → AsksWell (removed s dir) b
     body (Semantic query permanent prohibited) apart asks =
-        let parts = neither (has (named_in query) dir) (has permanent dir) apart in
+        let parts = or_parts (has (named_in query) dir) (has permanent dir) apart in
         record {
           fits = ask-stays s (removed s dir) query (λ d inside stands. directory-kept dir s.entries d (λ same. let never : true ≡ false = sym inside ∙ ap (has (named_in query)) (sym same) ∙ parts.0 in cc) ∙ stands) asks.fits;
           added = record {
@@ -250,3 +246,15 @@ apply-queries s (Ssync mount documents told) h ok = synced-queries s mount (answ
 apply-queries s (Sumount mount) h ok =
     let parts = sumount-parts s mount (accepted-parts (is_possible s (Sumount mount)) (passed_limit (apply s (Sumount mount))) ok).0 in
     unmounted-queries s mount h parts.0 parts.1
+
+pub mount-asks : (b : Body) → is_mount b ≡ true → query_in b ≡ None
+mount-asks (Mount space answers) mount = refl
+mount-asks Document mount = refl
+mount-asks (File text dirty shown) mount = refl
+mount-asks Dir mount = refl
+mount-asks (Symlink target) mount = refl
+mount-asks (Semantic query permanent prohibited) mount = absurd cc
+
+pub rewritten-query : (text : List ℕ) (body : Body) → query_in (rewritten text body) ≡ query_in body
+rewritten-query text (File old dirty shown) = refl
+rewritten-query text other = refl

@@ -8,7 +8,7 @@ use Rattle.hac_model.specs.Tree.Events.{added, apply, asking, changed_in, change
 use Rattle.hac_model.specs.Query.Formula.{Formula}
 use Rattle.hac_model.specs.Tree.Mounting.{answers_to, cleared, documents_from, forgetting_such, fresh, is_among, is_gone, is_of_mount, is_such_at, keeping, mounted, synced, unmounted, without_such}
 use Rattle.hac_model.specs.Tree.Mounts.{terms_to_ask}
-use Rattle.hac_model.specs.Tree.{child, is_dirty, is_document}
+use Rattle.hac_model.specs.Tree.{child}
 use Rattle.hac_model.specs.declared.events.Event.{Event}
 use Rattle.hac_model.specs.declared.events.Event.TheVariants.{Mkdir, NewFile, Rewrite, Ln, Mark, Mv, Rm, Rmdir, Setq, Smkdir, Smount, Ssync, Sumount, Step, Unq}
 use Rattle.hac_model.specs.declared.marks.Kind.{Kind}
@@ -23,6 +23,7 @@ use Rattle.hac_model.specs.Tree.Asking.{with_told}
 use Rattle.hac_model.proofs.GainLemmas.{bare-told}
 use Rattle.hac_model.proofs.MapLemmas.{child-mapped}
 use Rattle.hac_model.specs.declared.versions.Version.{Version}
+use Rattle.hac_model.proofs.AlikeLemmas.{bare-dirty, bare-document}
 
 -- what is bare stays so
 bare-again : (body : Body) → bare_body (bare_body body) ≡ bare_body body
@@ -64,13 +65,9 @@ kept-bare n (e ∷ es) = elim (e.number == n) as (λ b. map (edited bare_body) (
   | false ↦ (λ i. record e { body = sym (bare-again e.body) i } ∷ kept-bare n es i)
 ]
 
-dirty-bare : (body : Body) → is_dirty (bare_body body) ≡ is_dirty body
-dirty-bare (File text dirty shown) = refl
-dirty-bare other = refl
-
 pub next_dirty-bare : (es : List Entry) → next_dirty (map (edited bare_body) es) ≡ next_dirty es
 next_dirty-bare [] = refl
-next_dirty-bare (e ∷ es) = λ i. cond (dirty-bare e.body i) (Some e.number) (next_dirty-bare es i)
+next_dirty-bare (e ∷ es) = λ i. cond (bare-dirty e.body i) (Some e.number) (next_dirty-bare es i)
 
 rewritten-passes : (text : List ℕ) → Passes (edited (rewritten text))
 rewritten-passes text e = ap (λ (body : Body). record e { body = body }) (same e.body)
@@ -199,13 +196,8 @@ without-bare test (e ∷ es) same =
       | false ↦ (λ i. record e { body = sym (bare-again e.body) i } ∷ rest i)
     ] ∙ ap (λ (b : Bool). map (edited bare_body) (if not b then edited bare_body e ∷ filter (λ e. not (test e)) (map (edited bare_body) es) else filter (λ e. not (test e)) (map (edited bare_body) es))) (sym (same e))
 
-document-bare : (body : Body) → is_document (bare_body body) ≡ is_document body
-document-bare (Semantic query permanent prohibited) = refl
-document-bare (Mount space answers) = refl
-document-bare other = refl
-
 pub gone-bare : (mount : ℕ) (names : List (List ℕ)) → PassesBare (is_gone mount names)
-gone-bare mount names e = ap (λ (b : Bool). b && (e.parent == mount && not (is_among names e.name))) (document-bare e.body)
+gone-bare mount names e = ap (λ (b : Bool). b && (e.parent == mount && not (is_among names e.name))) (bare-document e.body)
 
 fresh-bare : (es : List Entry) (mount : ℕ) (names : List (List ℕ)) → filter (λ name. is_none (child (map (edited bare_body) es) mount name)) names ≡ filter (λ name. is_none (child es mount name)) names
 fresh-bare es mount [] = refl

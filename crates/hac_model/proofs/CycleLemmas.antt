@@ -2,22 +2,21 @@
 use Rattle.std.proofs.Common.{◌≡◌, ℕ, zero, suc, ◌≤◌, Bool, true, false, cond, List, [], ◌∷◌, length, subst, refl, ap, sym, ◌∙◌, arith, eq-eqb, inl, inr}
 use Rattle.std.specs.Prelude.{◌⊎◌, ◌==◌, Some, None}
 use Rattle.std.specs.List.{list_any}
-use Rattle.std.proofs.lemmas.Bool.{cases_eq, eqb-true}
+use Rattle.std.proofs.lemmas.Bool.{cases_eq, eqb-true, or_cases, or_left, or_right}
 use Rattle.hac_model.specs.Tree.Depends.{Among, Leads, Reaches, depends, first_reaching, leads_within, reaches}
 use Rattle.hac_model.specs.Tree.Limits.{semantic_count}
 use Rattle.hac_model.specs.declared.states.State.{State}
 use Rattle.hac_model.proofs.LinkLemmas.{Among-without, edge-among, length-without, semantic-length, semantic_numbers, without}
-use Rattle.hac_model.proofs.ChangeLemmas.{or-cases, or-left, or-right}
 
 -- a test that a member passes is passed by some member
 pub any-among : (test : ℕ → Bool) (xs : List ℕ) (n : ℕ) → Among xs n → test n ≡ true → list_any test xs ≡ true
 any-among test [] n inside passes = absurd inside
-any-among test (x ∷ xs) n (inl same) passes = or-left (test x) (list_any test xs) (ap test same ∙ passes)
-any-among test (x ∷ xs) n (inr more) passes = or-right (test x) (list_any test xs) (any-among test xs n more passes)
+any-among test (x ∷ xs) n (inl same) passes = or_left (test x) (list_any test xs) (ap test same ∙ passes)
+any-among test (x ∷ xs) n (inr more) passes = or_right (test x) (list_any test xs) (any-among test xs n more passes)
 
 pub among-any : (test : ℕ → Bool) (xs : List ℕ) → list_any test xs ≡ true → (n : ℕ) × Among xs n × (test n ≡ true)
 among-any test [] h = absurd cc
-among-any test (x ∷ xs) h = elim (or-cases (test x) (list_any test xs) h) [
+among-any test (x ∷ xs) h = elim (or_cases (test x) (list_any test xs) h) [
   | inl here ↦ (x, inl refl, here)
   | inr later ↦ (let more = among-any test xs later in (more.0, inr more.1, more.2))
 ]
@@ -49,15 +48,15 @@ none-free (x ∷ xs) n few h = omega arith
 shortened : (edges : ℕ → List ℕ) (most : ℕ) (free : List ℕ) (k from to : ℕ) → length free ≤ most → LeadsOver edges free k from to → leads_within edges most from to ≡ true
 shortened edges zero free zero from to few h = eq-eqb from to h
 shortened edges zero free (suc k) from to few (inside, more) = absurd (none-free free from few inside)
-shortened edges (suc most) free zero from to few h = or-left (from == to) (list_any (λ next. leads_within edges most next to) (edges from)) (eq-eqb from to h)
+shortened edges (suc most) free zero from to few h = or_left (from == to) (list_any (λ next. leads_within edges most next to) (edges from)) (eq-eqb from to h)
 shortened edges (suc most) free (suc k) from to few (inside, (next, edge, more)) =
     on (last_step edges free from k next to more) (λ j next over. shortened edges most (without from free) j next to (omega (arith, length-without from free inside)) over)
   where
     on : LeadsOver edges (without from free) k next to ⊎ ((j next : ℕ) × (Among (edges from) next) × LeadsOver edges (without from free) j next to)
         → ((j next : ℕ) → LeadsOver edges (without from free) j next to → leads_within edges most next to ≡ true)
         → leads_within edges (suc most) from to ≡ true
-    on (inl over) seen = or-right (from == to) _ (any-among (λ next. leads_within edges most next to) (edges from) next edge (seen k next over))
-    on (inr (j, other, step, over)) seen = or-right (from == to) _ (any-among (λ next. leads_within edges most next to) (edges from) other step (seen j other over))
+    on (inl over) seen = or_right (from == to) _ (any-among (λ next. leads_within edges most next to) (edges from) next edge (seen k next over))
+    on (inr (j, other, step, over)) seen = or_right (from == to) _ (any-among (λ next. leads_within edges most next to) (edges from) other step (seen j other over))
 
 -- each step is from a semantic directory
 leads-over : (s : State) (k from to : ℕ) → Leads (depends s) k from to → LeadsOver (depends s) (semantic_numbers s.entries) k from to
@@ -67,7 +66,7 @@ leads-over s (suc k) from to (next, edge, more) = (edge-among s from next edge, 
 -- and what is seen is a walk
 pub within-walk : (edges : ℕ → List ℕ) (most from to : ℕ) → leads_within edges most from to ≡ true → Reaches edges from to
 within-walk edges zero from to h = (zero, eqb-true from to h)
-within-walk edges (suc most) from to h = elim (or-cases (from == to) (list_any (λ next. leads_within edges most next to) (edges from)) h) [
+within-walk edges (suc most) from to h = elim (or_cases (from == to) (list_any (λ next. leads_within edges most next to) (edges from)) h) [
   | inl same ↦ (zero, eqb-true from to same)
   | inr on ↦ (
       let next = among-any (λ next. leads_within edges most next to) (edges from) on in

@@ -3,7 +3,7 @@ use Rattle.std.proofs.Common.{◌≡◌, ℕ, zero, suc, ◌+◌, ◌<◌, ◌�
 use Rattle.std.specs.Prelude.{if◌then◌else◌, ◌==◌, ◌&&◌, ◌||◌, filter, map, min, not, nat_le, nat_lt, replicate, Option, Some, None, Ok, IfSome, IsTrue, is_some, is_none}
 use Rattle.std.specs.List.{list_all}
 use Rattle.std.specs.Option.{option_map, option_map_or}
-use Rattle.std.proofs.lemmas.Bool.{and_from, and_parts, not-true, not_from_false}
+use Rattle.std.proofs.lemmas.Bool.{and_from, and_parts, not-true, not_from_false, or_left, or_right}
 use Rattle.std.proofs.lemmas.Bool.Decides.{nat_tests}
 use Rattle.hac_model.specs.Run.Answers.{first_cause}
 use Rattle.hac_model.specs.Tree.Events.{accepted, apply, apply_all, asking, changed_at, dirty, edited, indexed, is_empty_at, is_free, is_clear, is_inside, is_placed, is_possible, is_unreferenced, may_ask, next_dirty, is_made_holder, is_vacant}
@@ -39,7 +39,6 @@ use Rattle.hac_model.specs.declared.limits.LimitWord.TheVariants.{Docs, Sessions
 use Rattle.hac_model.specs.declared.places.Place.TheVariants.{There, Free}
 use Rattle.hac_model.specs.declared.replies.Refusal.{Refusal}
 use Rattle.hac_model.specs.declared.replies.Refusal.TheVariants as refusal
-use Rattle.hac_model.specs.declared.replies.Refusal.TheVariants.{NoPath, NotDir}
 use Rattle.hac_model.specs.declared.resolved.Resolved.{Resolved}
 use Rattle.hac_model.specs.declared.resolved.Resolved.TheVariants.{Mkdir, Rmdir, Write, Cd, Mv, Rm, Ln, Smkdir, Setq, Unq, Sln, Srm, Sforget, Smount, Ssync, Sumount, Index, Tick}
 use Rattle.hac_model.specs.declared.states.Body.{Body}
@@ -48,7 +47,6 @@ use Rattle.hac_model.specs.declared.states.Entry.{Entry}
 use Rattle.hac_model.specs.declared.states.Session.{Session}
 use Rattle.hac_model.specs.declared.states.State.{State}
 use Rattle.hac_model.proofs.AcyclicLemmas.{apply-valid}
-use Rattle.hac_model.proofs.ChangeLemmas.{or-left, or-right}
 use Rattle.hac_model.proofs.CountLemmas.{dirty_count-is, measured-changed, measured-cons, one_if}
 use Rattle.hac_model.proofs.FewLemmas.{asking-keeps, few-added, few-edited}
 use Rattle.hac_model.proofs.FoundLemmas.{mounted-told, names-rise, query-told, synced-told}
@@ -75,7 +73,7 @@ no_other : (b : Bool) (e : Refusal) → cond b None (Some e) ≡ None → b ≡ 
 no_other true e h = refl
 no_other false e h = absurd cc
 
-no_limit : (o : Option LimitWord) → option_map refusal.Limit o ≡ None → o ≡ None
+pub no_limit : (o : Option LimitWord) → option_map refusal.Limit o ≡ None → o ≡ None
 no_limit None h = refl
 no_limit (Some word) h = absurd cc
 
@@ -259,8 +257,8 @@ module _ (s : State) (h : IsLayout s) where
   added-there n there = at (is_directory_at s.entries n) refl
     where
       at : (b : Bool) → is_directory_at s.entries n ≡ b → can_be_added s n ≡ true
-      at true is = or-right (is_item s n) (is_directory_at s.entries n) is
-      at false is = or-left (is_item s n) (is_directory_at s.entries n) (item-there n there (ap (λ (b : Bool). if b then Some (refusal.NotFile (path_of s n)) else None) is))
+      at true is = or_right (is_item s n) (is_directory_at s.entries n) is
+      at false is = or_left (is_item s n) (is_directory_at s.entries n) (item-there n there (ap (λ (b : Bool). if b then Some (refusal.NotFile (path_of s n)) else None) is))
 
   -- a semantic directory, of which a mark speaks
   semantic-there : (dir : ℕ) (more : List (Option Refusal)) → first_cause (plain_cause s dir ∷ more) ≡ None → (is_semantic s dir ≡ true) × (first_cause more ≡ None)

@@ -3,7 +3,7 @@ use Rattle.std.proofs.Common.{◌≡◌, ℕ, ◌+◌, Bool, true, false, cond, 
 use Rattle.std.specs.Prelude.{◌==◌, ◌||◌, not, drop, filter, if◌then◌else◌, Option, Some, None, IsTrue, is_some, option_and_then}
 use Rattle.std.specs.List.{AllByRecursion, list_all}
 use Rattle.std.specs.Option.{option_map, option_map_or}
-use Rattle.std.proofs.lemmas.Bool.{and_parts, eqb-false, eqb-true, not-true}
+use Rattle.std.proofs.lemmas.Bool.{and_parts, eqb-false, eqb-true, not-true, or_cases, or_parts}
 use Rattle.std.proofs.lemmas.List.{append-nil}
 use Rattle.hac_model.specs.Tree.Bare.{bare, bare_body}
 use Rattle.hac_model.specs.Tree.Depends.{depends, named_in, names_directory, refers_to}
@@ -13,8 +13,8 @@ use Rattle.hac_model.specs.Tree.Limits.{passed_limit}
 use Rattle.hac_model.specs.Tree.Mounting.{answers_to, cleared, documents_from, fresh, is_gone, is_of_mount, is_such_at, numbers_without, redocumented, synced, unmounted}
 use Rattle.hac_model.specs.Tree.Mounts.{terms_to_ask}
 use Rattle.hac_model.specs.Query.Formula.{Formula}
-use Rattle.hac_model.specs.Tree.{answers_in, body_at, entry_at, is_directory, is_directory_at, is_leaf, is_leaf_at, is_linkable, is_made_directory, is_mount, is_mount_at, permanent_in, query_in}
-use Rattle.hac_model.specs.Tree.Links.{answers_at, can_be_added, has, is_item, is_semantic, parent_of, query_at}
+use Rattle.hac_model.specs.Tree.{answers_in, body_at, entry_at, is_directory, is_directory_at, is_leaf, is_leaf_at, is_linkable, is_made_directory, is_mount, is_mount_at, permanent_in, prohibited_in, query_in}
+use Rattle.hac_model.specs.Tree.Links.{answers_at, can_be_added, has, is_item, is_semantic, parent_of, permanent_at, prohibited_at, query_at}
 use Rattle.hac_model.specs.declared.states.Answer.{Answer}
 use Rattle.hac_model.specs.Tree.Valid.{AsksWell, IsLayout, IsValid}
 use Rattle.hac_model.specs.declared.events.Event.{Event}
@@ -27,8 +27,8 @@ use Rattle.hac_model.specs.declared.states.Entry.{Entry}
 use Rattle.hac_model.specs.declared.states.State.{State}
 use Rattle.hac_model.specs.declared.terms.Term.{Term}
 use Rattle.hac_model.proofs.AlikeLemmas.{bare-mount, directory-bare, parent_of-bare, query_at-bare}
-use Rattle.hac_model.proofs.AskLemmas.{added-directories, item-no_directory, leaf-no_directory, neither, test-append}
-use Rattle.hac_model.proofs.ChangeLemmas.{all-both, all-filter, all-weaker, directory-changed, directory-kept, entry_at-gone, is_kept, or-cases}
+use Rattle.hac_model.proofs.AskLemmas.{added-directories, item-no_directory, leaf-no_directory, test-append}
+use Rattle.hac_model.proofs.ChangeLemmas.{all-both, all-filter, all-weaker, directory-changed, directory-kept, entry_at-gone, is_kept}
 use Rattle.hac_model.proofs.GainLemmas.{directory-told, entry_at-gains, item-told, layout-told, made-told, mount-told, parent-told}
 use Rattle.hac_model.proofs.TreeLemmas.{entry_at-all, entry_at-number}
 use Rattle.hac_model.specs.Tree.Asking.{asked_by, gained, gaining, unanswered, with_answers, with_told}
@@ -253,7 +253,7 @@ pub record StaysAs (s t : State) (n : ℕ) : Type 0 where
   pub directory : is_directory_at s.entries n ≡ true → is_directory_at t.entries n ≡ true
   pub item : is_item s n ≡ true → is_item t n ≡ true
 
--- the number is that of a directory before and after, or neither
+-- the number is that of a directory before and after, or or_parts
 abbrev pub IsSame : State → State → ℕ → Type 0
 IsSame s t n = is_directory_at t.entries n ≡ is_directory_at s.entries n
 
@@ -262,7 +262,7 @@ stays-same s t n h can stays = at (is_directory_at s.entries n) refl
   where
     at : (b : Bool) → is_directory_at s.entries n ≡ b → IsSame s t n
     at true there = stays.directory there ∙ sym there
-    at false other = elim (or-cases (is_item s n) (is_directory_at s.entries n) can) [
+    at false other = elim (or_cases (is_item s n) (is_directory_at s.entries n) can) [
       | inl item ↦ no_directory (is_directory_at t.entries n) refl (stays.item item) ∙ sym other
       | inr there ↦ stays.directory there ∙ sym there
     ]
@@ -304,7 +304,7 @@ marks-apart : (s : State) (dir : ℕ) → is_unreferenced s dir ≡ true → (n 
 marks-apart s dir apart n =
     elim (entry_at s.entries n) as (λ o. entry_at s.entries n ≡ o → AllByRecursion (λ k. k ≡ dir → ⊥) (facts_at (is_directory_at s.entries) o).marks.permanent) [
       | None ↦ (λ found. tt)
-      | Some e ↦ (λ found. absent (permanent_in e.body) (neither (names_directory dir e) (has (permanent_in e.body) dir) (not-true (refers_to dir e) (entry_at-all (λ e. not (refers_to dir e) ≡ true) s.entries n e (all s.entries apart) found))).1)
+      | Some e ↦ (λ found. absent (permanent_in e.body) (or_parts (names_directory dir e) (has (permanent_in e.body) dir) (not-true (refers_to dir e) (entry_at-all (λ e. not (refers_to dir e) ≡ true) s.entries n e (all s.entries apart) found))).1)
     ] refl
   where
     all : (es : List Entry) → list_all (λ e. not (refers_to dir e)) es ≡ true → AllByRecursion (λ e. not (refers_to dir e) ≡ true) es
@@ -313,7 +313,7 @@ marks-apart s dir apart n =
 
     absent : (ks : List ℕ) → has ks dir ≡ false → AllByRecursion (λ k. k ≡ dir → ⊥) ks
     absent [] h = tt
-    absent (k ∷ ks) h = let parts = neither (k == dir) (has ks dir) h in (eqb-false k dir parts.0, absent ks parts.1)
+    absent (k ∷ ks) h = let parts = or_parts (k == dir) (has ks dir) h in (eqb-false k dir parts.0, absent ks parts.1)
 
 put-all : (P : ℕ → Type 0) (f : ℕ → Facts) (key : ℕ) (x : Facts) (n : ℕ) → AllByRecursion P x.marks.permanent → AllByRecursion P (f n).marks.permanent → AllByRecursion P (put_at f key x n).marks.permanent
 put-all P f key x n here there = elim (n == key) as (λ b. AllByRecursion P (cond b x (f n)).marks.permanent) [ true ↦ here | false ↦ there ]
@@ -379,7 +379,7 @@ module _ (s : State) (h : IsValid s) where
               gone : (b : Bool) → is_directory_at s.entries k ≡ b → is_directory_at (filter (is_kept item) s.entries) k ≡ is_directory_at s.entries k
               gone true there = absurd (leaf-no_directory s item k h.layout leaf there here)
               gone false none =
-                  let first : (k == 0) ≡ false = (neither (k == 0) (is_made_directory s.entries k) none).0 in
+                  let first : (k == 0) ≡ false = (or_parts (k == 0) (is_made_directory s.entries k) none).0 in
                   ap (λ (b : Bool). b || is_made_directory (filter (is_kept item) s.entries) k) first
                   ∙ ap (λ (o : Option Entry). option_map_or is_directory (option_map (λ (e : Entry). e.body) o) false) (ap (λ (m : ℕ). entry_at (filter (is_kept item) s.entries) m) (sym here) ∙ entry_at-gone item s.entries)
                   ∙ sym none
@@ -521,3 +521,12 @@ facts-bare (Ssync mount documents told) s facts n = λ i.
     put_at (facts_without (λ item. gone_at-bare mount documents s item i) facts) mount (record no_facts { answers = answers_to (terms-bare s i) told }) n
 facts-bare (Sumount mount) s facts n = λ i. put_at (facts_without (λ item. of_mount_at-bare mount s item i) facts) mount no_facts n
 facts-bare other s facts n = refl
+
+pub permanent-fact : (s : State) (n : ℕ) → permanent_at s n ≡ (facts_of s n).marks.permanent
+permanent-fact s n = elim (entry_at s.entries n) as (λ (o : Option Entry). option_map_or permanent_in (option_map (λ (e : Entry). e.body) o) [] ≡ (facts_at (is_directory_at s.entries) o).marks.permanent) [ None ↦ refl | Some e ↦ refl ]
+
+pub prohibited-fact : (s : State) (n : ℕ) → prohibited_at s n ≡ (facts_of s n).marks.prohibited
+prohibited-fact s n = elim (entry_at s.entries n) as (λ (o : Option Entry). option_map_or prohibited_in (option_map (λ (e : Entry). e.body) o) [] ≡ (facts_at (is_directory_at s.entries) o).marks.prohibited) [ None ↦ refl | Some e ↦ refl ]
+
+pub answers-fact : (s : State) (n : ℕ) → answers_at s n ≡ (facts_of s n).answers
+answers-fact s n = elim (entry_at s.entries n) as (λ (o : Option Entry). option_map_or answers_in (option_map (λ (e : Entry). e.body) o) [] ≡ (facts_at (is_directory_at s.entries) o).answers) [ None ↦ refl | Some e ↦ refl ]

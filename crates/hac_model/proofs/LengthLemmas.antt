@@ -1,6 +1,6 @@
 -- The payload of each event that can happen is shorter than 2 ^ 32 bytes, so that a record's four bytes hold its length.
 use Rattle.std.proofs.Common.{◌≡◌, ℕ, zero, suc, ◌+◌, ◌*◌, ◌<◌, ◌≤◌, ◌^◌, Bool, true, false, cond, List, [], ◌∷◌, ◌++◌, length, refl, sym, ◌∙◌, ap, nat_lt, arith, length-append}
-use Rattle.std.specs.Prelude.{◌==◌, ◌&&◌, not, nat_le, sum_by, filter, drop, take, if◌then◌else◌, Option, Some, None, IsTrue}
+use Rattle.std.specs.Prelude.{◌==◌, ◌&&◌, not, nat_le, sum_by, drop, take, if◌then◌else◌, Option, Some, None, IsTrue}
 use Rattle.std.specs.Int.{w8, w16, w32, to_le_bytes}
 use Rattle.std.specs.List.{AllByRecursion, list_all}
 use Rattle.std.specs.Option.{option_map, option_map_or}
@@ -14,14 +14,13 @@ use Rattle.hac_model.specs.Payload.QueryFields.{are_nums, query_bytes, query_fie
 use Rattle.hac_model.specs.Query.Formula.{Formula}
 use Rattle.hac_model.specs.Query.Formula as query
 use Rattle.hac_model.specs.Query.Queries.{are_terms, is_query, letter_count, not_count, sum_leaves, term_count, terms_of}
-use Rattle.hac_model.specs.Query.Terms.{is_term_before}
 use Rattle.hac_model.specs.Script.PathWords.{is_path_word}
 use Rattle.hac_model.specs.Script.SpaceNames.{is_space_name}
 use Rattle.hac_model.specs.Tree.Asking.{are_all_told, asked_by, unanswered}
 use Rattle.hac_model.specs.Tree.Depends.{named_in}
 use Rattle.hac_model.specs.Tree.Events.{accepted, apply, are_directories, is_possible, may_ask}
 use Rattle.hac_model.specs.Tree.Links.{answers_at, parent_of}
-use Rattle.hac_model.specs.Tree.Mounts.{terms_in_order, is_kept, put_term, terms_to_ask}
+use Rattle.hac_model.specs.Tree.Mounts.{terms_in_order, is_kept, terms_to_ask}
 use Rattle.hac_model.specs.Tree.Changes.{changed_in, edited}
 use Rattle.hac_model.specs.Tree.Limits.{answers_kept, are_answers_few, documents_kept, item_count, mount_count, passed_limit}
 use Rattle.hac_model.specs.Tree.Listing.{is_before}
@@ -55,6 +54,7 @@ use Rattle.hac_model.proofs.ValidLemmas.{accepted-parts, setq-parts, smkdir-part
 use Rattle.hac_model.proofs.TreeLemmas.{entry_at-above, entry_at-behind}
 use Rattle.hac_model.proofs.MountAskLemmas.{test-joined}
 use Rattle.hac_model.proofs.MountLayoutLemmas.{all-tested, cleared-mount}
+use Rattle.hac_model.proofs.SpellableLemmas.{filter-few, order-few, terms-few}
 
 -- ---- numbers and runs of bytes
 
@@ -280,41 +280,13 @@ lists-few s mount (ns ∷ told) h are =
     let parts = and_parts (is_told s mount ns) (list_all (is_told s mount) told) are in
     omega (arith, told-few s mount ns h parts.0, lists-few s mount told h parts.1, sum_by-cons (λ (ns : List ℕ). length ns) ns told)
 
-put-few : (term : Term) (terms : List Term) → length (put_term term terms) ≤ suc (length terms)
-put-few term [] = omega arith
-put-few term (first ∷ terms) =
-    elim (is_term_before term first) as (λ b. length (if b then term ∷ first ∷ terms else (if is_term_before first term then first ∷ put_term term terms else first ∷ terms)) ≤ suc (length (first ∷ terms))) [
-      | true ↦ omega arith
-      | false ↦ elim (is_term_before first term) as (λ b. length (if b then first ∷ put_term term terms else first ∷ terms) ≤ suc (length (first ∷ terms))) [
-        | true ↦ omega (arith, put-few term terms)
-        | false ↦ omega arith
-      ]
-    ]
-
-order-few : (terms : List Term) → length (terms_in_order terms) ≤ length terms
-order-few [] = omega arith
-order-few (term ∷ terms) = omega (arith, order-few terms, put-few term (terms_in_order terms))
-
-terms-few : (q : Formula ℕ) → length (terms_of q) ≤ term_count q
-terms-few (query.Term term) = omega arith
-terms-few (query.Dir dir) = omega arith
-terms-few (query.Not q) = terms-few q
-terms-few (query.And left right) = omega (arith, length-append (terms_of left) (terms_of right), terms-few left, terms-few right)
-terms-few (query.Or left right) = omega (arith, length-append (terms_of left) (terms_of right), terms-few left, terms-few right)
-
-passing-few : (p : Term → Bool) (terms : List Term) → length (filter p terms) ≤ length terms
-passing-few p [] = omega arith
-passing-few p (term ∷ terms) =
-    let rest = passing-few p terms in
-    elim (p term) as (λ b. length (if b then term ∷ filter p terms else filter p terms) ≤ length (term ∷ terms)) [ true ↦ omega (arith, rest) | false ↦ omega (arith, rest) ]
-
 -- a mount has to be asked for no more terms than a query may have
 asked-few : (s : State) (query : Formula ℕ) (e : Entry) → term_count query ≤ TERMS_LIMIT → length (asked_by (answers_at s) query e) ≤ 64 * one_if is_mount e.body
 asked-few s query e terms = few (is_mount e.body)
   where
     few : (b : Bool) → length (if b then unanswered query (answers_at s e.number) else []) ≤ 64 * cond {A = ℕ} b 1 0
     few true =
-        omega (arith, passing-few (λ term. not (is_kept (answers_at s e.number) term)) (terms_in_order (terms_of query)), order-few (terms_of query), terms-few query, terms)
+        omega (arith, filter-few (λ term. not (is_kept (answers_at s e.number) term)) (terms_in_order (terms_of query)), order-few (terms_of query), terms-few query, terms)
     few false = omega arith
 
 -- what was told has so many lists, and so many numbers in them

@@ -115,7 +115,7 @@ holds-same s a b (query.Or p q) item same = λ i.
     holds-same s a b p item (λ e edge. same e (among-left (named_in p) (named_in q) e edge)) i
     || holds-same s a b q item (λ e edge. same e (among-right (named_in p) (named_in q) e edge)) i
 
-satisfied : (s : State) (a : ℕ → Bool) (dir item : ℕ) (q : Formula ℕ) → query_at s dir ≡ Some q → satisfies s a dir item ≡ holds s a q item
+pub satisfied : (s : State) (a : ℕ → Bool) (dir item : ℕ) (q : Formula ℕ) → query_at s dir ≡ Some q → satisfies s a dir item ≡ holds s a q item
 satisfied s a dir item q at = ap (λ (o : Option (Formula ℕ)). option_map_or (λ (q : Formula ℕ). holds s a q item) o false) at
 
 pub passes-same : (s : State) (a b : ℕ → Bool) (dir item : ℕ) (q : Formula ℕ) → query_at s dir ≡ Some q → ((e : ℕ) → Among (parent_of s dir ∷ named_in q) e → a e ≡ b e) → passes s a dir item ≡ passes s b dir item
@@ -123,7 +123,7 @@ passes-same s a b dir item q at same =
     ap (λ (t : Bool). t && is_judged s item && satisfies s a dir item && is_unmarked s dir item) (provide-same s a b (parent_of s dir) item (same (parent_of s dir) (inl refl)))
     ∙ ap (λ (t : Bool). provide s b (parent_of s dir) item && is_judged s item && t && is_unmarked s dir item) (satisfied s a dir item q at ∙ holds-same s a b q item (λ e edge. same e (inr edge)) ∙ sym (satisfied s b dir item q at))
 
-any-agree : (p q : ℕ → Bool) (xs : List ℕ) → ((x : ℕ) → Among xs x → p x ≡ q x) → list_any p xs ≡ list_any q xs
+pub any-agree : (p q : ℕ → Bool) (xs : List ℕ) → ((x : ℕ) → Among xs x → p x ≡ q x) → list_any p xs ≡ list_any q xs
 any-agree p q [] same = refl
 any-agree p q (x ∷ xs) same = λ i. same x (inl refl) i || any-agree p q xs (λ y inside. same y (inr inside)) i
 

@@ -1,26 +1,26 @@
 -- What a listing needs of the links: which items they are, and by what each is linked.
-use Rattle.std.proofs.Common.{◌≡◌, ℕ, zero, suc, ◌+◌, ◌<◌, ◌≤◌, Bool, true, false, cond, List, [], ◌∷◌, refl, ap, sym, ◌∙◌, arith, eq-eqb, inl, inr}
-use Rattle.std.specs.Prelude.{◌&&◌, ◌||◌, ◌==◌, if◌then◌else◌, Option, filter}
+use Rattle.std.proofs.Common.{◌≡◌, ℕ, ◌<◌, Bool, true, false, cond, List, [], ◌∷◌, refl, ap, sym, ◌∙◌, arith, eq-eqb, inl, inr}
+use Rattle.std.specs.Prelude.{filter, if◌then◌else◌, None, Option, ◌&&◌, ◌==◌, ◌||◌}
 use Rattle.std.specs.List.{range_with_len}
 use Rattle.std.specs.Option.{option_map, option_map_or}
-use Rattle.std.proofs.lemmas.Bool.{cases_eq, cases_lt}
+use Rattle.std.proofs.lemmas.Bool.{cases_lt, or_right}
 use Rattle.hac_model.specs.Tree.Depends.{IsAcyclic}
 use Rattle.hac_model.specs.Tree.Links.{DirLinks, column, has, is_item, is_lent, is_semantic, items, links, no_links, passes, round, transient_at}
-use Rattle.hac_model.specs.Tree.{is_linkable}
+use Rattle.hac_model.specs.Tree.{entry_at, is_linkable}
 use Rattle.hac_model.specs.Tree.Valid.{IsLayout}
 use Rattle.hac_model.specs.declared.states.Entry.{Entry}
 use Rattle.hac_model.specs.declared.states.State.{State}
 use Rattle.hac_model.proofs.LinkLemmas.{links-fixed}
 use Rattle.hac_model.proofs.MarkLemmas.{has-filter}
 use Rattle.hac_model.proofs.TreeLemmas.{entry_at-next}
-use Rattle.hac_model.proofs.ChangeLemmas.{or-right}
+use Rattle.hac_model.proofs.RangeLemmas.{range-has}
 
 -- conditions that agree on the members keep the same
 pub filter-agree : (p q : ℕ → Bool) (xs : List ℕ) → ((x : ℕ) → has xs x ≡ true → p x ≡ q x) → filter p xs ≡ filter q xs
 filter-agree p q [] same = refl
 filter-agree p q (y ∷ xs) same =
     let here : p y ≡ q y = same y (ap (λ (b : Bool). b || has xs y) (eq-eqb y y refl)) in
-    let rest : filter p xs ≡ filter q xs = filter-agree p q xs (λ x inside. same x (or-right (y == x) (has xs x) inside)) in
+    let rest : filter p xs ≡ filter q xs = filter-agree p q xs (λ x inside. same x (or_right (y == x) (has xs x) inside)) in
     ap (λ (b : Bool). cond b (y ∷ filter p xs) (filter p xs)) here ∙ ap (λ (zs : List ℕ). cond (q y) (y ∷ zs) zs) rest
 
 filter-kept : (q : ℕ → Bool) (xs : List ℕ) → filter (λ x. has (filter q xs) x) xs ≡ filter q xs
@@ -91,22 +91,18 @@ module _ (s : State) (dir : ℕ) (acyclic : IsAcyclic s) where
   unfolding lends
   lent-item item inside = ap (λ (lent : List ℕ). has lent item) lent-is ∙ kept-item s dir lends item inside
 
-has-range : (a n x : ℕ) → a ≤ x → x < a + n → has (range_with_len a n) x ≡ true
-has-range a zero x low high = absurd (omega arith)
-has-range a (suc n) x low high =
-    elim (cases_eq a x) [
-      | inl same ↦ ap (λ (b : Bool). b || has (range_with_len (a + 1) n) x) (eq-eqb a x same)
-      | inr other ↦ or-right (a == x) (has (range_with_len (a + 1) n) x) (has-range (a + 1) n x (omega arith) (omega arith))
-    ]
-
 -- an item is among them
 pub item-listed : (s : State) (item : ℕ) → IsLayout s → is_item s item ≡ true → has (items s) item ≡ true
 item-listed s item h linked =
     let below = number-below s item h linked in
-    has-filter (is_item s) (range_with_len 0 s.next) item ∙ ap (λ (b : Bool). b && has (range_with_len 0 s.next) item) linked ∙ has-range 0 s.next item (omega arith) (omega (arith, below))
+    has-filter (is_item s) (range_with_len 0 s.next) item ∙ ap (λ (b : Bool). b && has (range_with_len 0 s.next) item) linked ∙ range-has 0 s.next item (omega arith) (omega (arith, below))
   where
     number-below : (s : State) (n : ℕ) → IsLayout s → is_item s n ≡ true → n < s.next
     number-below s n h linked = elim (cases_lt n s.next) [
       | inl less ↦ less
       | inr high ↦ (let none : false ≡ true = ap (λ (o : Option Entry). option_map_or is_linkable (option_map (λ (e : Entry). e.body) o) false) (sym (entry_at-next 0 s.entries s.next n h.numbers high)) ∙ linked in absurd cc)
     ]
+
+-- a number of no entry is that of no item
+pub none-item : (s : State) (number : ℕ) → entry_at s.entries number ≡ None → is_item s number ≡ false
+none-item s number none = ap (λ (o : Option Entry). option_map_or is_linkable (option_map (λ (e : Entry). e.body) o) false) none

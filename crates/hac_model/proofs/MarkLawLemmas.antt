@@ -3,7 +3,7 @@ use Rattle.std.proofs.Common.{◌≡◌, ℕ, Bool, true, false, cond, List, [],
 use Rattle.std.specs.Prelude.{◌==◌, ◌&&◌, ◌||◌, not, Some, None, IsTrue, is_some, option_and_then}
 use Rattle.std.specs.List.{AllByRecursion, list_any}
 use Rattle.std.specs.Option.{option_map, option_map_or}
-use Rattle.std.proofs.lemmas.Bool.{and_parts, eqb-true, ne_eqb}
+use Rattle.std.proofs.lemmas.Bool.{and_parts, eqb-true, ne_eqb, or_right}
 use Rattle.hac_model.specs.Query.Formula.{Formula}
 use Rattle.hac_model.specs.Run.Refusals.{marks}
 use Rattle.hac_model.specs.Tree.Events.{accepted, apply, put_in, without}
@@ -22,7 +22,6 @@ use Rattle.hac_model.specs.declared.states.Body.TheVariants.{File, Dir, Symlink,
 use Rattle.hac_model.specs.declared.states.Entry.{Entry}
 use Rattle.hac_model.specs.declared.states.State.{State}
 use Rattle.hac_model.proofs.FactLemmas.{facts-law}
-use Rattle.hac_model.proofs.ChangeLemmas.{or-right}
 use Rattle.hac_model.proofs.ListedLemmas.{found-item, found-listed, item-listed, lent-item}
 use Rattle.hac_model.proofs.MarkLemmas.{has-filter, has-put_in, has-without}
 use Rattle.hac_model.proofs.TreeLemmas.{entry_at-all}
@@ -56,10 +55,10 @@ put-here f n x = ap (λ (b : Bool). cond b x (f n)) (eq-eqb n n refl)
 put-other : (f : ℕ → Facts) (n m : ℕ) (x : Facts) → (m == n) ≡ false → put_at f n x m ≡ f m
 put-other f n m x other = ap (λ (b : Bool). cond b x (f m)) other
 
-put-has : (n : ℕ) (xs : List ℕ) → has (put_in n xs) n ≡ true
+pub put-has : (n : ℕ) (xs : List ℕ) → has (put_in n xs) n ≡ true
 put-has n xs = has-put_in n xs n ∙ ap (λ (b : Bool). b || has xs n) (eq-eqb n n refl)
 
-without-other : (n m : ℕ) (xs : List ℕ) → (m == n) ≡ false → has (without n xs) m ≡ has xs m
+pub without-other : (n m : ℕ) (xs : List ℕ) → (m == n) ≡ false → has (without n xs) m ≡ has xs m
 without-other n m xs other = has-filter (λ x. not (x == n)) xs m ∙ ap (λ (b : Bool). not b && has xs m) other
 
 put-has_other : (n m : ℕ) (xs : List ℕ) → (n == m) ≡ false → (m == n) ≡ false → has (put_in n (without n xs)) m ≡ has xs m
@@ -178,7 +177,7 @@ lent-provided s dir lender item h semantic linked there provided =
     some [] inside = absurd cc
     some (x ∷ xs) inside = elim (x == lender) as (λ b. (x == lender) ≡ b → (b || has xs lender) ≡ true → (provide s (column (links s) item) x item || list_any (λ x. provide s (column (links s) item) x item) xs) ≡ true) [
       | true ↦ (λ is more. ap (λ (b : Bool). b || list_any (λ x. provide s (column (links s) item) x item) xs) (ap (λ (d : ℕ). provide s (column (links s) item) d item) (eqb-true x lender is) ∙ provided))
-      | false ↦ (λ is more. or-right (provide s (column (links s) item) x item) (list_any (λ x. provide s (column (links s) item) x item) xs) (some xs more))
+      | false ↦ (λ is more. or_right (provide s (column (links s) item) x item) (list_any (λ x. provide s (column (links s) item) x item) xs) (some xs more))
     ] refl inside
 
     all-true : (a b c d e : Bool) → b ≡ true → d ≡ true → (a || (b && ((c || d) || e))) ≡ true

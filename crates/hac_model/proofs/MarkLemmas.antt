@@ -70,7 +70,7 @@ all-passes p (x ∷ xs) = elim (p x) as (λ b. p x ≡ b → AllByRecursion (λ 
 ] refl
 
 -- what holds of all in two ways holds in both
-rise-lower : (low bound : ℕ) (xs : List ℕ) → low ≤ bound → RiseFrom bound xs → RiseFrom low xs
+pub rise-lower : (low bound : ℕ) (xs : List ℕ) → low ≤ bound → RiseFrom bound xs → RiseFrom low xs
 rise-lower low bound [] less h = tt
 rise-lower low bound (x ∷ xs) less h = let first : bound ≤ x = h.0 in (omega arith, h.1)
 

@@ -18,7 +18,7 @@ use Rattle.hac_model.specs.declared.states.Body.TheVariants.{Semantic, Mount}
 use Rattle.hac_model.specs.declared.states.Entry.{Entry}
 use Rattle.hac_model.specs.declared.states.Session.{Session}
 use Rattle.hac_model.specs.declared.states.State.{State}
-use Rattle.hac_model.proofs.ChangeLemmas.{all-both, all-changed, all-filter, all-joined, all-weaker, directory-changed, test-changed}
+use Rattle.hac_model.proofs.ChangeLemmas.{all-both, all-changed, all-filter, all-joined, all-weaker, directory-changed, entry_at-none, test-changed}
 use Rattle.hac_model.proofs.MapLemmas.{all-map, test-mapped}
 use Rattle.hac_model.proofs.MarkLemmas.{all-passes, has-filter, rise-filter}
 use Rattle.hac_model.proofs.PathLemmas.{root-none}
@@ -42,7 +42,7 @@ documents-ask_nothing n m [] = tt
 documents-ask_nothing n m (name ∷ names) = (refl, documents-ask_nothing (n + 1) m names)
 
 -- what was there before is found first
-entry_at-joined : (es new : List Entry) (n : ℕ) (found : Entry) → entry_at es n ≡ Some found → entry_at (es ++ new) n ≡ Some found
+pub entry_at-joined : (es new : List Entry) (n : ℕ) (found : Entry) → entry_at es n ≡ Some found → entry_at (es ++ new) n ≡ Some found
 entry_at-joined [] new n found h = absurd cc
 entry_at-joined (x ∷ es) new n found h = elim (x.number == n) as (λ b. cond b (Some x) (entry_at es n) ≡ Some found → cond b (Some x) (entry_at (es ++ new) n) ≡ Some found) [ true ↦ (λ h. h) | false ↦ (λ h. entry_at-joined es new n found h) ] h
 
@@ -79,18 +79,6 @@ extended-asks s next new nothing asks =
 abbrev pub passing : (Entry → Bool) → Entry → Option Entry
 passing p e = if p e then Some e else None
 
--- nor does it leave what isn't there
-filter-none : (p : Entry → Bool) (es : List Entry) (n : ℕ) → entry_at es n ≡ None → entry_at (filter p es) n ≡ None
-filter-none p [] n none = refl
-filter-none p (x ∷ es) n none =
-    elim (x.number == n) as (λ b. (x.number == n) ≡ b → cond b (Some x) (entry_at es n) ≡ None → entry_at (cond (p x) (x ∷ filter p es) (filter p es)) n ≡ None) [
-      | true ↦ (λ here none. absurd cc)
-      | false ↦ (λ other none. elim (p x) as (λ k. entry_at (cond k (x ∷ filter p es) (filter p es)) n ≡ None) [
-        | true ↦ ap (λ (b : Bool). cond b (Some x) (entry_at (filter p es) n)) other ∙ filter-none p es n none
-        | false ↦ filter-none p es n none
-      ])
-    ] refl none
-
 -- where numbers rise there is no second entry of a number
 pub entry_at-filter : (p : Entry → Bool) (above : ℕ) (es : List Entry) (next n : ℕ) → NumbersRise above es next → entry_at (filter p es) n ≡ option_and_then (passing p) (entry_at es n)
 entry_at-filter p above [] next n h = refl
@@ -98,7 +86,7 @@ entry_at-filter p above (x ∷ es) next n h =
     elim (x.number == n) as (λ b. (x.number == n) ≡ b → entry_at (cond (p x) (x ∷ filter p es) (filter p es)) n ≡ option_and_then (passing p) (cond b (Some x) (entry_at es n))) [
       | true ↦ (λ here. elim (p x) as (λ k. entry_at (cond k (x ∷ filter p es) (filter p es)) n ≡ cond k (Some x) None) [
         | true ↦ ap (λ (b : Bool). cond b (Some x) (entry_at (filter p es) n)) here
-        | false ↦ filter-none p es n (entry_at-low x.number es next n h.1 (let same : x.number ≡ n = eqb-true x.number n here in omega arith))
+        | false ↦ entry_at-none p es n (entry_at-low x.number es next n h.1 (let same : x.number ≡ n = eqb-true x.number n here in omega arith))
       ])
       | false ↦ (λ other. elim (p x) as (λ k. entry_at (cond k (x ∷ filter p es) (filter p es)) n ≡ option_and_then (passing p) (entry_at es n)) [
         | true ↦ ap (λ (b : Bool). cond b (Some x) (entry_at (filter p es) n)) other ∙ entry_at-filter p x.number es next n h.1

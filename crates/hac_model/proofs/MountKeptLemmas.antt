@@ -5,7 +5,7 @@ use Rattle.std.specs.Option.{option_map, option_map_or}
 use Rattle.std.specs.Cmp.Lexicographic.{nat_list_eq_equiv}
 use Rattle.std.specs.List.{AllByRecursion, list_all}
 use Rattle.std.specs.Str.{bytes_eq}
-use Rattle.std.proofs.lemmas.Bool.{and_parts, eq-eqb, eqb-true, le-leb, leb-true, ne_eqb, not-true}
+use Rattle.std.proofs.lemmas.Bool.{and_parts, eq-eqb, eqb-true, le-leb, leb-true, ne_eqb, not-true, or_right}
 use Rattle.std.proofs.lemmas.Slice.Eq.{bytes_eq-Decides}
 use Rattle.hac_model.specs.Query.Queries.{is_askable}
 use Rattle.hac_model.specs.Tree.Events.{changed_in, edited, is_free}
@@ -21,7 +21,7 @@ use Rattle.hac_model.specs.declared.states.Body.TheVariants.{File, Dir, Symlink,
 use Rattle.hac_model.specs.declared.states.Entry.{Entry}
 use Rattle.hac_model.specs.declared.states.State.{State}
 use Rattle.hac_model.specs.declared.terms.Term.{Term}
-use Rattle.hac_model.proofs.ChangeLemmas.{all-append, all-changed, all-filter, all-joined, all-weaker, entry_at-append, entry_at-changed, first_apart, or-right, touched}
+use Rattle.hac_model.proofs.ChangeLemmas.{all-append, all-changed, all-filter, all-joined, all-weaker, entry_at-append, entry_at-changed, first_apart, touched}
 use Rattle.hac_model.proofs.FittingLemmas.{all-passed}
 use Rattle.hac_model.proofs.KeepingLemmas.{AreKept, EachKept, all-kept, document-entry, document_by, each-kept, inside, inside-mapped, same-document}
 use Rattle.hac_model.proofs.MapLemmas.{all-map, entry_at-mapped}
@@ -293,7 +293,7 @@ all-self : (names : List (List ℕ)) → AllByRecursion (λ name. is_among names
 all-self [] = tt
 all-self (name ∷ names) = (
   ap (λ (b : Bool). b || is_among names name) ((bytes_eq-Decides name name).1 refl),
-  all-weaker (λ other. is_among names other ≡ true) (λ other. is_among (name ∷ names) other ≡ true) names (λ other inside. or-right (bytes_eq other name) (is_among names other) inside) (all-self names),
+  all-weaker (λ other. is_among names other ≡ true) (λ other. is_among (name ∷ names) other ≡ true) names (λ other inside. or_right (bytes_eq other name) (is_among names other) inside) (all-self names),
 )
 
 -- Entries go.

@@ -1,13 +1,11 @@
 -- The tree stays one where mounts come, are synced and go.
-use Rattle.std.proofs.Common.{◌≡◌, ℕ, ◌+◌, ◌<◌, Bool, true, false, List, [], ◌∷◌, ◌++◌, length, subst, refl, ap, sym, ◌∙◌, arith, eq-eqb, inl, inr, Ordering, Less, Equal, Greater}
+use Rattle.std.proofs.Common.{◌≡◌, ℕ, ◌+◌, ◌<◌, Bool, true, false, List, [], ◌∷◌, ◌++◌, length, subst, refl, ap, sym, ◌∙◌, arith, eq-eqb, inl, inr}
 use Rattle.std.specs.Prelude.{◌&&◌, ◌||◌, ◌==◌, not, filter, if◌then◌else◌, nat_le, Option, Some, None, IsTrue, is_none}
 use Rattle.std.specs.Option.{option_map, option_map_or}
-use Rattle.std.specs.Ordering.{is_eq, is_lt, nat_cmp}
-use Rattle.std.specs.Cmp.Lexicographic.{nat_list_eq_equiv, slice_cmp}
+use Rattle.std.specs.Cmp.Lexicographic.{nat_list_eq_equiv}
 use Rattle.std.specs.List.{AllByRecursion, list_all}
 use Rattle.std.specs.Str.{bytes_eq}
-use Rattle.std.proofs.lemmas.Bool.{and_from, and_parts, eqb-true, ne_eqb}
-use Rattle.std.proofs.lemmas.Map.Text.{is_eq-slice_cmp}
+use Rattle.std.proofs.lemmas.Bool.{and_from, and_parts, and_right, eqb-true, ne_eqb, or_right}
 use Rattle.hac_model.specs.Script.SpaceNames.{is_space_name}
 use Rattle.hac_model.specs.Tree.Events.{added, is_free}
 use Rattle.hac_model.specs.Tree.Limits.{passed_limit}
@@ -22,26 +20,15 @@ use Rattle.hac_model.specs.declared.states.Body.{Body}
 use Rattle.hac_model.specs.declared.states.Body.TheVariants.{File, Dir, Symlink, Semantic, Mount, Document}
 use Rattle.hac_model.specs.declared.states.Entry.{Entry}
 use Rattle.hac_model.specs.declared.states.State.{State}
-use Rattle.hac_model.proofs.ChangeLemmas.{all-filter, all-joined, all-weaker, apart, child-filter, entry_at-filter, entry_at-new, first_apart, or-right}
+use Rattle.hac_model.proofs.ChangeLemmas.{all-filter, all-joined, all-weaker, apart, child-filter, entry_at-filter, entry_at-new, first_apart}
 use Rattle.hac_model.proofs.FittingLemmas.{IsFitting, LeavesDirectories, fitting-layout, layout-fits, mapped-fits, without-fits}
 use Rattle.hac_model.proofs.MapLemmas.{child-mapped, test-mapped}
 use Rattle.hac_model.proofs.TreeLemmas.{Lives, directory-lives, entry_at-all, entry_at-below, entry_at-next, entry_at-number, place-directory, place-same}
 use Rattle.hac_model.proofs.ValidLemmas.{KeepsPlaces, added-fits, edited-fits, free-parts, none_from}
 use Rattle.hac_model.proofs.SuchLemmas.{such-directory, such-document, such-mount, such-sound}
+use Rattle.hac_model.proofs.NameOrderLemmas.{before-differs}
 
 -- Names of documents.
-
-before-differs : (x y : List ℕ) → is_before x y ≡ true → bytes_eq x y ≡ false
-before-differs x y h = sym (is_eq-slice_cmp x y) ∙ apart-by (slice_cmp nat_cmp x y) h
-  where
-    apart-by : (o : Ordering) → is_lt o ≡ true → is_eq o ≡ false
-    apart-by Less h = refl
-    apart-by Equal h = absurd cc
-    apart-by Greater h = absurd cc
-
-and-no : (a b : Bool) → b ≡ false → (a && b) ≡ false
-and-no true b h = h
-and-no false b h = refl
 
 pub all-tested : {X : Type 0} (p : X → Bool) (xs : List X) → list_all p xs ≡ true → AllByRecursion (λ x. p x ≡ true) xs
 all-tested p [] h = tt
@@ -114,7 +101,7 @@ documents-differ next mount [] rise = tt
 documents-differ next mount (name ∷ names) rise =
     let parts = and_parts (list_all (is_before name) names) (do_names_rise names) rise in (
       child-documents (next + 1) mount names mount name (all-weaker (λ other. is_before name other ≡ true) (λ other. (mount == mount && bytes_eq other name) ≡ false) names
-          (λ other before. and-no (mount == mount) (bytes_eq other name) (nat_list_eq_equiv.symm other name ∙ before-differs name other before)) (all-tested (is_before name) names parts.0)),
+          (λ other before. and_right (mount == mount) (bytes_eq other name) (nat_list_eq_equiv.symm other name ∙ before-differs name other before)) (all-tested (is_before name) names parts.0)),
       documents-differ (next + 1) mount names parts.1,
     )
 
@@ -228,7 +215,7 @@ pub of_mount-stays : (s : State) (mount : ℕ) → IsFitting s → is_mount_at s
 of_mount-stays s mount h there e x found left is kind = elim (x.number == mount) as (λ b. (x.number == mount) ≡ b → (b || x.parent == mount) ≡ false) [
   | true ↦ (λ here.
       let same : e.parent ≡ mount = sym (entry_at-number s.entries e.parent x is) ∙ eqb-true x.number mount here in
-      let never : true ≡ false = sym (or-right (e.number == mount) (e.parent == mount) (eq-eqb e.parent mount same)) ∙ left in absurd cc)
+      let never : true ≡ false = sym (or_right (e.number == mount) (e.parent == mount) (eq-eqb e.parent mount same)) ∙ left in absurd cc)
   | false ↦ (λ _. elim (x.parent == mount) as (λ b. (x.parent == mount) ≡ b → b ≡ false) [
     | false ↦ (λ _. refl)
     | true ↦ (λ inside. let never : true ≡ false = sym (holder (eqb-true x.parent mount inside)) ∙ ap not there in absurd cc)
@@ -324,3 +311,19 @@ synced-layout s mount answers documents h there told limits =
 pub unmounted-layout : (s : State) (mount : ℕ) → IsLayout s → is_mount_at s.entries mount ≡ true → passed_limit (unmounted s mount) ≡ None → IsLayout (unmounted s mount)
 unmounted-layout s mount h there limits =
     fitting-layout (unmounted s mount) (cleared-fits (is_of_mount mount) s (of_mount-stays s mount (layout-fits s h) there) (layout-fits s h)) limits
+
+pub document-is : (b : Body) → is_document b ≡ true → b ≡ Document
+document-is Document is = refl
+document-is (File text dirty shown) is = absurd cc
+document-is Dir is = absurd cc
+document-is (Symlink target) is = absurd cc
+document-is (Semantic query permanent prohibited) is = absurd cc
+document-is (Mount space answers) is = absurd cc
+
+-- the entry of a mount
+pub mount-found : (es : List Entry) (mount : ℕ) → is_mount_at es mount ≡ true → (e : Entry) × (entry_at es mount ≡ Some e) × (is_mount e.body ≡ true)
+mount-found es mount is = in_option (entry_at es mount) is
+  where
+    in_option : (o : Option Entry) → option_map_or is_mount (option_map (λ (e : Entry). e.body) o) false ≡ true → (e : Entry) × (o ≡ Some e) × (is_mount e.body ≡ true)
+    in_option None is = absurd cc
+    in_option (Some e) is = (e, refl, is)

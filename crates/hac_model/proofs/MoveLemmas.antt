@@ -33,7 +33,7 @@ lives-below s n h (inl root) = let more : 0 < s.next = rise-below 0 s.entries s.
 lives-below s n h (inr found) = entry_at-below 0 s.entries s.next n found.0 h.numbers found.1
 
 -- a test that each entry passes
-all_pass : (test : Entry → Bool) (es : List Entry) → AllByRecursion (λ e. test e ≡ true) es → list_all test es ≡ true
+pub all_pass : (test : Entry → Bool) (es : List Entry) → AllByRecursion (λ e. test e ≡ true) es → list_all test es ≡ true
 all_pass test [] h = refl
 all_pass test (e ∷ es) h = ap (λ (b : Bool). b && list_all test es) h.0 ∙ all_pass test es h.1
 

@@ -1,7 +1,7 @@
 -- Names that rise, by neighbours, and a name among them.
 use Rattle.std.proofs.Common.{◌≡◌, ℕ, zero, suc, ◌+◌, ◌<◌, ◌≤◌, Bool, true, false, List, [], ◌∷◌, length, get_or, subst, refl, ap, sym, ◌∙◌, arith, inl, inr}
 use Rattle.std.specs.Prelude.{◌||◌, Result, Ok, Err, is_ok}
-use Rattle.std.specs.Cmp.Lexicographic.{nat_list_cmp_total, nat_list_eq_equiv, slice_cmp}
+use Rattle.std.specs.Cmp.Lexicographic.{nat_list_cmp_total, nat_list_eq_equiv, slice_cmp, texts_ties}
 use Rattle.std.specs.List.{list_all}
 use Rattle.std.specs.List.Sorted.{IsBinarySearchResult, IsPartitionPoint, IsSortedBy}
 use Rattle.std.specs.Ordering.{is_eq, is_lt, nat_cmp, ordering_reverse}
@@ -90,3 +90,23 @@ searched-among names name (Err i) found rise =
       | inl low ↦ even name (get_or names k d) Less (point.0 k d (omega arith) low)
       | inr high ↦ even name (get_or names k d) Greater (point.1 k d high inside)
     ]))
+
+pub same-turned : (x y : List ℕ) → bytes_eq x y ≡ bytes_eq y x
+same-turned x y = nat_list_eq_equiv.symm x y
+
+pub before-trans : (x y z : List ℕ) → is_before x y ≡ true → is_before y z ≡ true → is_before x z ≡ true
+before-trans x y z h k = ap is_lt (nat_list_cmp_total.trans x y z (less-from (slice_cmp nat_cmp x y) h) (less-from (slice_cmp nat_cmp y z) k))
+
+pub before-differs : (x y : List ℕ) → is_before x y ≡ true → bytes_eq x y ≡ false
+before-differs x y h = texts_ties x y ∙ ap is_eq (less-from (slice_cmp nat_cmp x y) h)
+
+-- of two names that differ one comes before the other
+pub before-other : (x y : List ℕ) → is_before x y ≡ false → bytes_eq x y ≡ false → is_before y x ≡ true
+before-other x y h k =
+    ap is_lt (nat_list_cmp_total.antisymm y x)
+    ∙ turned (slice_cmp nat_cmp x y) h (sym (texts_ties x y) ∙ k)
+  where
+    turned : (o : Ordering) → is_lt o ≡ false → is_eq o ≡ false → is_lt (ordering_reverse o) ≡ true
+    turned Less h k = absurd cc
+    turned Equal h k = absurd cc
+    turned Greater h k = refl

@@ -290,3 +290,7 @@ extends-rises s n d h live lives below = from_root s (λ n. extends (path_of s n
           | true ↦ (λ here below. (zero, (e, found, eqb-true e.parent d here)))
           | false ↦ (λ other below. let more = known below in (suc more.0, (e, found, more.1)))
         ] refl (sym (extends-parent s n d e h lives found) ∙ below)
+
+pub lineage-steps : (es : List Entry) (n : ℕ) → ancestors (PATH_LIMIT + 1) es n ≡ lineage es n
+unfolding lineage
+lineage-steps es n = refl

@@ -106,7 +106,7 @@ same-lookup s t n h k same = elim (entry_at-cases s.entries n) [
 ]
 
 -- entries whose numbers rise are known by what is looked up among them
-entries-told : (above : ℕ) (es fs : List Entry) (next : ℕ) → NumbersRise above es next → NumbersRise above fs next → ((n : ℕ) → entry_at es n ≡ entry_at fs n) → es ≡ fs
+pub entries-told : (above : ℕ) (es fs : List Entry) (next : ℕ) → NumbersRise above es next → NumbersRise above fs next → ((n : ℕ) → entry_at es n ≡ entry_at fs n) → es ≡ fs
 entries-told above [] [] next h k same = refl
 entries-told above [] (f ∷ fs) next h k same = let never : None ≡ Some f = same f.number ∙ entry_at-first f fs in absurd cc
 entries-told above (e ∷ es) [] next h k same = let never : Some e ≡ None = sym (entry_at-first e es) ∙ same e.number in absurd cc

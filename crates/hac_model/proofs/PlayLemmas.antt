@@ -196,7 +196,7 @@ abbrev Leads : Setting → Turn → Type 0
 Leads setting turn = GoesOn setting turn.after (events_in turn)
 
 -- the steps that follow by themselves are stored
-steps-stored : (n : ℕ) (setting : Setting) → filter is_stored (steps_behind n setting) ≡ steps_behind n setting
+pub steps-stored : (n : ℕ) (setting : Setting) → filter is_stored (steps_behind n setting) ≡ steps_behind n setting
 steps-stored zero setting = refl
 steps-stored (suc n) setting =
     let next = after_events setting (event.Step ∷ []) in

@@ -1,13 +1,14 @@
 -- Lists in which what passes a test comes first, and numbers that rise: what a binary search says of them.
-use Rattle.std.proofs.Common.{◌≡◌, ℕ, zero, suc, ◌+◌, ◌<◌, ◌≤◌, Bool, true, false, List, [], ◌∷◌, add-one, drop, drop-cons, length, get_or, refl, ap, sym, ◌∙◌, arith, inl, inr}
-use Rattle.std.specs.Prelude.{Some, None, slice_get, ◌==◌, ◌||◌, Result, Ok, Err, is_ok}
+use Rattle.std.proofs.Common.{[], add-one, ap, arith, Bool, drop, drop-cons, false, get_or, inl, inr, length, List, refl, subst, suc, sym, true, zero, ℕ, ◌+◌, ◌-◌, ◌<◌, ◌∙◌, ◌∷◌, ◌≡◌, ◌≤◌}
+use Rattle.std.specs.Prelude.{Err, is_ok, Ok, Result, slice_index, ◌==◌, ◌||◌}
 use Rattle.std.specs.List.{AllByRecursion, prefix_len}
-use Rattle.std.specs.List.Sorted.{IsPartitionPoint, IsPartitionedBy, IsBinarySearchResult}
-use Rattle.std.specs.Ordering.{nat_cmp}
+use Rattle.std.specs.List.Sorted.{IsBinarySearchResult, IsPartitionedBy, IsPartitionPoint, IsStrictlyIncreasing}
+use Rattle.std.specs.Ordering.{is_le, nat_cmp}
 use Rattle.std.proofs.lemmas.Bool.{cases_lt, eq-eqb, ne_eqb}
 use Rattle.std.proofs.lemmas.List.Sorted.{searched}
 use Rattle.hac_model.specs.Tree.Links.{has}
 use Rattle.hac_model.specs.Tree.Valid.{RiseFrom}
+use Rattle.std.proofs.lemmas.Bool.Decides.{nat_tests}
 
 -- Lists of anything.
 
@@ -15,20 +16,6 @@ pub all-index : {X : Type 0} (P : X → Type 0) (xs : List X) (i : ℕ) (d : X) 
 all-index P [] i d h inside = absurd (omega arith)
 all-index P (x ∷ xs) zero d h inside = h.0
 all-index P (x ∷ xs) (suc i) d h inside = all-index P xs i d h.1 (omega arith)
-
-pub all-weaker : {X : Type 0} (P Q : X → Type 0) (xs : List X) → ((x : X) → P x → Q x) → AllByRecursion P xs → AllByRecursion Q xs
-all-weaker P Q [] weaker h = tt
-all-weaker P Q (x ∷ xs) weaker h = (weaker x h.0, all-weaker P Q xs weaker h.1)
-
-pub get-inside : {X : Type 0} (xs : List X) (i : ℕ) (d : X) → i < length xs → slice_get xs i ≡ Some (get_or xs i d)
-get-inside [] i d inside = absurd (omega arith)
-get-inside (x ∷ xs) zero d inside = refl
-get-inside (x ∷ xs) (suc i) d inside = get-inside xs i d (omega arith)
-
-pub get-outside : {X : Type 0} (xs : List X) (i : ℕ) → length xs ≤ i → slice_get xs i ≡ None
-get-outside [] i outside = refl
-get-outside (x ∷ xs) zero outside = absurd (omega arith)
-get-outside (x ∷ xs) (suc i) outside = get-outside xs i (omega arith)
 
 -- what passes the test comes before what doesn't
 abbrev pub Falls : {X : Type 0} → (X → Bool) → List X → Type 0
@@ -68,7 +55,7 @@ rise-above bound [] j h inside = absurd (omega arith)
 rise-above bound (x ∷ xs) zero h inside = h.0
 rise-above bound (x ∷ xs) (suc j) h inside = omega (arith, rise-above (x + 1) xs j h.1 (omega arith), h.0)
 
-rise-order : (bound : ℕ) (xs : List ℕ) → RiseFrom bound xs → (i j : ℕ) → i ≤ j → j < length xs → get_or xs i 0 ≤ get_or xs j 0
+pub rise-order : (bound : ℕ) (xs : List ℕ) → RiseFrom bound xs → (i j : ℕ) → i ≤ j → j < length xs → get_or xs i 0 ≤ get_or xs j 0
 rise-order bound [] h i j le inside = absurd (omega arith)
 rise-order bound (x ∷ xs) h zero zero le inside = omega arith
 rise-order bound (x ∷ xs) h zero (suc j) le inside = omega (arith, rise-above (x + 1) xs j h.1 (omega arith))
@@ -99,3 +86,20 @@ searched-has xs x (Err i) found rise =
       | inl low ↦ (let less : get_or xs k 0 < x = at.1 k low in absurd (omega (arith, less, is)))
       | inr high ↦ (let more : x < get_or xs k 0 = at.2 k high inside in absurd (omega (arith, more, is)))
     ]))
+
+-- each number is below the next
+pub steps-rise : (bound : ℕ) (ns : List ℕ) → ((n : ℕ) (more : List ℕ) → ns ≡ n ∷ more → bound ≤ n) → IsStrictlyIncreasing ns → RiseFrom bound ns
+steps-rise bound [] low h = tt
+steps-rise bound (n ∷ []) low h = (low n [] refl, tt)
+steps-rise bound (n ∷ m ∷ ns) low h = (
+  low n (m ∷ ns) refl,
+  steps-rise (n + 1) (m ∷ ns)
+      (λ k more is. let same : m ≡ k = cc in let less : n < m = h 0 (omega arith) in omega arith)
+      (λ k inside. subst (λ (j : ℕ). slice_index (m ∷ ns) k < slice_index (n ∷ m ∷ ns) j) {x = suc k + 1} {y = suc (k + 1)} (omega arith) (h (suc k) (omega arith))),
+)
+
+pub le-told : (a b : ℕ) → is_le (nat_cmp a b) ≡ true → a ≤ b
+le-told a b h = grind (arith, nat_tests)
+
+pub not-le-told : (a b : ℕ) → is_le (nat_cmp a b) ≡ false → b < a
+not-le-told a b h = grind (arith, nat_tests)

@@ -121,7 +121,7 @@ module _ (s : State) (h : IsLayout s) where
 
 -- Terms.
 
-put-few : (term : Term) (terms : List Term) → length (put_term term terms) ≤ suc (length terms)
+pub put-few : (term : Term) (terms : List Term) → length (put_term term terms) ≤ suc (length terms)
 put-few term [] = omega arith
 put-few term (first ∷ terms) =
     elim (is_term_before term first) as (λ b. length (if b then term ∷ first ∷ terms else (if is_term_before first term then first ∷ put_term term terms else first ∷ terms)) ≤ suc (length (first ∷ terms))) [
@@ -132,11 +132,11 @@ put-few term (first ∷ terms) =
       ]
     ]
 
-order-few : (terms : List Term) → length (terms_in_order terms) ≤ length terms
+pub order-few : (terms : List Term) → length (terms_in_order terms) ≤ length terms
 order-few [] = omega arith
 order-few (term ∷ terms) = omega (arith, order-few terms, put-few term (terms_in_order terms))
 
-terms-few : (q : Formula ℕ) → length (terms_of q) ≤ term_count q
+pub terms-few : (q : Formula ℕ) → length (terms_of q) ≤ term_count q
 terms-few (query.Term term) = omega arith
 terms-few (query.Dir dir) = omega arith
 terms-few (query.Not q) = terms-few q
@@ -182,7 +182,7 @@ told-fit s t mount told h tree are =
 
 -- What mounts are told for a query.
 
-filter-few : (p : Term → Bool) (terms : List Term) → length (filter p terms) ≤ length terms
+pub filter-few : (p : Term → Bool) (terms : List Term) → length (filter p terms) ≤ length terms
 filter-few p [] = omega arith
 filter-few p (term ∷ terms) =
     let rest = filter-few p terms in

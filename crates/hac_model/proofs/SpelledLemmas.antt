@@ -2,7 +2,7 @@
 -- queries are no longer than such may be, and what it tells of a space's documents is no more than four bytes can count.
 use Rattle.std.proofs.Common.{inl, inr, ◌≡◌, ℕ, zero, suc, ◌<◌, Bool, true, false, List, [], ◌∷◌, ◌++◌, length, refl, ap, sym, ◌∙◌, arith}
 use Rattle.std.specs.Prelude.{not, option_and_then, ◌&&◌, ◌||◌, if◌then◌else◌, nat_le, Option, Some, None, IsTrue, is_some, is_none}
-use Rattle.std.proofs.lemmas.Bool.{and_from, and_parts}
+use Rattle.std.proofs.lemmas.Bool.{and_from, and_parts, or_cases}
 use Rattle.std.proofs.lemmas.List.Folds.{list_all-append}
 use Rattle.std.specs.Option.{option_map, option_map_or}
 use Rattle.hac_model.specs.Tree.Depends.{cycle_of_mark, cycle_over, first_reaching, named_in, reaches}
@@ -32,7 +32,7 @@ use Rattle.hac_model.specs.declared.states.Body.{Body}
 use Rattle.hac_model.specs.declared.states.Entry.{Entry}
 use Rattle.hac_model.specs.declared.states.State.{State}
 use Rattle.hac_model.proofs.StayLemmas.{asks-stays}
-use Rattle.hac_model.proofs.ChangeLemmas.{all-weaker, or-cases}
+use Rattle.hac_model.proofs.ChangeLemmas.{all-weaker}
 use Rattle.hac_model.proofs.LayoutLemmas.{smount-parts, ssync-parts, sumount-parts}
 use Rattle.hac_model.proofs.MountLayoutLemmas.{mounted-layout, synced-layout}
 use Rattle.hac_model.proofs.SpellableLemmas.{docs-fit, name-fits, small-fits, space-fits, all-told-fit, told-fit}
@@ -111,7 +111,7 @@ module _ (s : State) (h : IsValid s) where
 
   -- what can have a mark has a number that fits
   added-fits : (n : ℕ) → can_be_added s n ≡ true → (num s.version).fits n ≡ true
-  added-fits n can = elim (or-cases (is_item s n) (is_directory_at s.entries n) can) [
+  added-fits n can = elim (or_cases (is_item s n) (is_directory_at s.entries n) can) [
     | inl item ↦ tested-fits n is_linkable item
     | inr dir ↦ number-fits n (directory-lives s.entries n dir)
   ]

@@ -55,20 +55,16 @@ spells_bad_line : Spells (Err BadLine)
 unfolding Spells
 spells_bad_line = tt
 
--- the names of a path that is read are names
-path-spelled : (bytes : List ℕ) (path : PathWord) → word_of bytes ≡ Ok path → are_names path.names ≡ true
-path-spelled bytes path given = word_of-names bytes path given
-
 -- the same of the only path
 only_path-spelled : (word : Result (List ℕ) Refusal) (path : PathWord) → (word >>= word_of) ≡ Ok path → are_names path.names ≡ true
-only_path-spelled (Ok bytes) path given = path-spelled bytes path given
+only_path-spelled (Ok bytes) path given = word_of-names bytes path given
 only_path-spelled (Err refusal) path given = absurd cc
 
-pair-same : (from to : PathWord) (paths : PathWord × PathWord) → (let read : Result (PathWord × PathWord) Refusal = Ok (from, to) in read) ≡ Ok paths → (from, to) ≡ paths
+pub pair-same : (from to : PathWord) (paths : PathWord × PathWord) → (let read : Result (PathWord × PathWord) Refusal = Ok (from, to) in read) ≡ Ok paths → (from, to) ≡ paths
 pair-same from to paths given = cc
 
 -- and of two
-each_path-spelled : (first second : Result PathWord Refusal) (paths : PathWord × PathWord) →
+pub each_path-spelled : (first second : Result PathWord Refusal) (paths : PathWord × PathWord) →
     (first >>= λ from. second >>= λ to. Ok (from, to)) ≡ Ok paths → (first ≡ Ok paths.0) × (second ≡ Ok paths.1)
 each_path-spelled (Ok from) (Ok to) paths given = (ap (λ (p : PathWord × PathWord). Ok p.0) (pair-same from to paths given), ap (λ (p : PathWord × PathWord). Ok p.1) (pair-same from to paths given))
 each_path-spelled (Ok from) (Err refusal) paths given = absurd cc
@@ -81,7 +77,7 @@ two_paths-spelled first second paths given =
       | true ↦ (λ same. absurd cc)
       | false ↦ (λ same.
           let each = each_path-spelled (word_of first) (word_of second) paths same in
-          (path-spelled first paths.0 each.0, path-spelled second paths.1 each.1))
+          (word_of-names first paths.0 each.0, word_of-names second paths.1 each.1))
     ] given
 
 spells_one : (command : PathWord → Command) (arguments : List ℕ) → ((path : PathWord) → are_names path.names ≡ true → is_spelled (command path) ≡ true) →
@@ -123,7 +119,7 @@ spells_write arguments =
     spells-then (ok_or (text_of (after_space word.1)) BadLine) _ (λ spelled _.
     spells-then (word_of word.0) _ (λ path named.
     spells-then (limited_text spelled) _ (λ text fits.
-    command-spelled (Write path text) (and_from (are_names path.names) (is_text text) (path-spelled word.0 path named) (limited_text-is spelled text fits))))))
+    command-spelled (Write path text) (and_from (are_names path.names) (is_text text) (word_of-names word.0 path named) (limited_text-is spelled text fits))))))
 
 -- a word that is read is a path word
 word-read : (bytes : List ℕ) (path : PathWord) → word_of bytes ≡ Ok path → is_path_word bytes ≡ true
@@ -167,7 +163,7 @@ spells_queried command arguments spelled =
     spells-then (first_word arguments) _ (λ word _.
     spells-then (word_of word.0) _ (λ path named.
     spells-then (read_query (after_space word.1)) _ (λ query read.
-    command-spelled (command path query) (spelled path query (path-spelled word.0 path named) (read_spelled (after_space word.1) query read)))))
+    command-spelled (command path query) (spelled path query (word_of-names word.0 path named) (read_spelled (after_space word.1) query read)))))
 
 spells_find : (arguments : List ℕ) → Spells (find_of arguments)
 unfolding find_of
@@ -192,7 +188,7 @@ spells_mount arguments =
     spells-then (only_word word.1) _ (λ space _.
     spells-then (if is_space_name space then Ok space else Err BadLine) _ (λ name good.
     spells-then (word_of word.0) _ (λ path named.
-    command-spelled (Smount path name) (and_from (are_names path.names) (is_space_name name) (path-spelled word.0 path named) (named-space space name good))))))
+    command-spelled (Smount path name) (and_from (are_names path.names) (is_space_name name) (word_of-names word.0 path named) (named-space space name good))))))
 
 tick-spelled : (word : List ℕ) → Spells (if is_tick word then Ok (Tick (digits_value 10 word)) else Err BadLine)
 tick-spelled word =
@@ -244,7 +240,7 @@ unfolding Spells
 spells_put_at word (Some (Whole bytes)) =
     spells-then (word_of word) _ (λ path named.
     spells-then (limited_text bytes) _ (λ text fits.
-    command-spelled (Write path text) (and_from (are_names path.names) (is_text text) (path-spelled word path named) (limited_text-is bytes text fits))))
+    command-spelled (Write path text) (and_from (are_names path.names) (is_text text) (word_of-names word path named) (limited_text-is bytes text fits))))
 spells_put_at word (Some Dropped) = spells-then (word_of word) _ (λ path named. tt)
 spells_put_at word (Some Short) = tt
 spells_put_at word None = tt

@@ -5,7 +5,7 @@ use Rattle.std.specs.Int.{w16, w32, to_le_bytes}
 use Rattle.std.specs.List.{AllByRecursion}
 use Rattle.std.specs.Option.{option_map, option_map_or}
 use Rattle.std.specs.Str.{bytes_eq}
-use Rattle.std.proofs.lemmas.Bool.{and_parts, leb-true}
+use Rattle.std.proofs.lemmas.Bool.{and_parts, leb-true, or_cases}
 use Rattle.std.proofs.lemmas.Bool.Decides.{nat_tests}
 use Rattle.std.proofs.lemmas.List.Sums.{sum_by-cons}
 use Rattle.hac_model.specs.Payload.Fields.{count, Field, items_fit, items_text, list, nothing, num, part, ◌&◌}
@@ -31,7 +31,7 @@ use Rattle.hac_model.specs.declared.states.State.{State}
 use Rattle.hac_model.specs.declared.terms.Term.{Term}
 use Rattle.hac_model.specs.declared.terms.Term.TheVariants.{Word, Prefix}
 use Rattle.hac_model.specs.declared.versions.Version.{Version}
-use Rattle.hac_model.proofs.ChangeLemmas.{all-weaker, or-cases}
+use Rattle.hac_model.proofs.ChangeLemmas.{all-weaker}
 use Rattle.hac_model.proofs.CountLemmas.{is_queried, measured, measured-cons, one_if}
 use Rattle.hac_model.proofs.LimitLemmas.{limits-within, most-mounts, most-symlinks}
 use Rattle.hac_model.proofs.LiveLemmas.{all-few, live-few, tested-entry}
@@ -221,7 +221,7 @@ module _ (s : State) (h : IsValid s) where
 
   -- what can be added is there
   added-live : (n : ℕ) → can_be_added s n ≡ true → Lives s.entries n
-  added-live n can = elim (or-cases (is_item s n) (is_directory_at s.entries n) can) [
+  added-live n can = elim (or_cases (is_item s n) (is_directory_at s.entries n) can) [
     | inl item ↦ inr (tested-entry s.entries is_linkable n item)
     | inr dir ↦ directory-lives s.entries n dir
   ]

@@ -1,16 +1,13 @@
 -- What is stored of a valid state has a spelling: its numbers have their bytes, its entries, marks and kept answers are no
 -- more than four bytes can count; its names, texts, queries and terms are no longer than such may be; and
 -- the names of a mount's documents rise.
-use Rattle.std.proofs.Common.{inl, inr, ◌≡◌, ℕ, suc, ◌<◌, ◌≤◌, Bool, true, false, cond, List, [], ◌∷◌, length, subst, refl, ap, sym, ◌∙◌, arith}
+use Rattle.std.proofs.Common.{inl, inr, ◌≡◌, ℕ, suc, ◌<◌, ◌≤◌, Bool, true, false, cond, List, [], ◌∷◌, length, subst, refl, ap, ◌∙◌, arith}
 use Rattle.std.specs.Prelude.{not, ◌&&◌, ◌==◌, if◌then◌else◌, nat_lt, nat_le, map, filter, Option, Some, None, IsTrue}
-use Rattle.std.specs.Cmp.Lexicographic.{slice_cmp, nat_list_cmp_total, nat_list_eq_equiv, texts_ties}
+use Rattle.std.specs.Cmp.Lexicographic.{nat_list_eq_equiv}
 use Rattle.std.specs.List.{AllByRecursion, list_all}
 use Rattle.std.specs.Option.{option_map, option_map_or}
-use Rattle.std.specs.Ordering.{nat_cmp, is_eq, is_lt, ordering_reverse}
 use Rattle.std.specs.Str.{bytes_eq}
-use Rattle.std.specs.declared.cmp.Ordering.{Ordering}
-use Rattle.std.specs.declared.cmp.Ordering.TheVariants.{Less, Equal, Greater}
-use Rattle.std.proofs.lemmas.Bool.{and_from, and_parts, eqb-true, le-leb, leb-true}
+use Rattle.std.proofs.lemmas.Bool.{and_from, and_parts, eqb-true, le-leb, leb-true, or_cases}
 use Rattle.std.proofs.lemmas.Bool.Decides.{nat_tests}
 use Rattle.std.proofs.lemmas.List.{length-map}
 use Rattle.hac_model.specs.Payload.Fields.{count, items_fit, num}
@@ -35,7 +32,7 @@ use Rattle.hac_model.specs.declared.states.Entry.{Entry}
 use Rattle.hac_model.specs.declared.states.State.{State}
 use Rattle.hac_model.specs.declared.terms.Term.{Term}
 use Rattle.hac_model.specs.declared.terms.Term.TheVariants.{Word, Prefix}
-use Rattle.hac_model.proofs.ChangeLemmas.{all-filter, all-weaker, or-cases}
+use Rattle.hac_model.proofs.ChangeLemmas.{all-filter, all-weaker}
 use Rattle.hac_model.proofs.CountLemmas.{measured, measured-removed}
 use Rattle.hac_model.proofs.SpellableLemmas.{documents-live, name-fits, nums-fit, small-fits, space-fits}
 use Rattle.hac_model.proofs.SpelledLemmas.{number-fits, query-fits, text-fits}
@@ -45,25 +42,9 @@ use Rattle.hac_model.specs.Versions.{docs_limit}
 use Rattle.hac_model.specs.declared.versions.Version.{Version}
 use Rattle.hac_model.specs.declared.versions.Version.TheVariants.{One, Two}
 use Rattle.hac_model.proofs.LiveLemmas.{all-few, tested-entry}
+use Rattle.hac_model.proofs.NameOrderLemmas.{before-other, before-trans}
 
 -- ---- names in order
-
-less-from : (o : Ordering) → is_lt o ≡ true → o ≡ Less
-less-from Less h = refl
-less-from Equal h = absurd cc
-less-from Greater h = absurd cc
-
-before-trans : (x y z : List ℕ) → is_before x y ≡ true → is_before y z ≡ true → is_before x z ≡ true
-before-trans x y z h k = ap is_lt (nat_list_cmp_total.trans x y z (less-from (slice_cmp nat_cmp x y) h) (less-from (slice_cmp nat_cmp y z) k))
-
--- of two names that differ one comes before the other
-before-other : (x y : List ℕ) → is_before x y ≡ false → bytes_eq x y ≡ false → is_before y x ≡ true
-before-other x y h k = ap is_lt (nat_list_cmp_total.antisymm y x) ∙ turned (slice_cmp nat_cmp x y) h (sym (texts_ties x y) ∙ k)
-  where
-    turned : (o : Ordering) → is_lt o ≡ false → is_eq o ≡ false → is_lt (ordering_reverse o) ≡ true
-    turned Less h k = absurd cc
-    turned Equal h k = absurd cc
-    turned Greater h k = refl
 
 -- each name comes before all behind it
 abbrev NamesRise : List Entry → Type 0
@@ -71,14 +52,14 @@ NamesRise [] = Unit {0}
 NamesRise (e ∷ es) = AllByRecursion (λ f. IsTrue (is_before e.name f.name)) es × NamesRise es
 
 -- what holds of entries holds of them in order
-all-put : (P : Entry → Type 0) (new : Entry) (es : List Entry) → P new → AllByRecursion P es → AllByRecursion P (put_in_order new es)
+pub all-put : (P : Entry → Type 0) (new : Entry) (es : List Entry) → P new → AllByRecursion P es → AllByRecursion P (put_in_order new es)
 all-put P new [] p h = (p, tt)
 all-put P new (e ∷ es) p h = elim (is_before new.name e.name) as (λ b. AllByRecursion P (cond b (new ∷ e ∷ es) (e ∷ put_in_order new es))) [
   | true ↦ (p, h)
   | false ↦ (h.0, all-put P new es p h.1)
 ]
 
-all-order : (P : Entry → Type 0) (es : List Entry) → AllByRecursion P es → AllByRecursion P (in_order es)
+pub all-order : (P : Entry → Type 0) (es : List Entry) → AllByRecursion P es → AllByRecursion P (in_order es)
 all-order P [] h = tt
 all-order P (e ∷ es) h = all-put P e (in_order es) h.0 (all-order P es h.1)
 
@@ -225,7 +206,7 @@ module _ (s : State) (h : IsValid s) where
   item-live n is = inr (tested-entry s.entries is_linkable n is)
 
   added-live : (n : ℕ) → can_be_added s n ≡ true → Lives s.entries n
-  added-live n can = elim (or-cases (is_item s n) (is_directory_at s.entries n) can) [ inl item ↦ item-live n item | inr dir ↦ directory-lives s.entries n dir ]
+  added-live n can = elim (or_cases (is_item s n) (is_directory_at s.entries n) can) [ inl item ↦ item-live n item | inr dir ↦ directory-lives s.entries n dir ]
 
   marks-fit : (test : ℕ → Bool) → ((n : ℕ) → test n ≡ true → Lives s.entries n) → (ns : List ℕ) → AreMarks test ns → (nums s.version).fits ns ≡ true
   marks-fit test live ns are = nums-fit s h.layout ns are.rise (all-weaker (λ n. test n ≡ true) (Lives s.entries) ns live are.there)

@@ -2,7 +2,7 @@
 use Rattle.std.proofs.Common.{◌≡◌, ℕ, Bool, true, false, List, [], ◌∷◌, refl, ap, sym, subst, ◌∙◌, eq-eqb, inl, inr}
 use Rattle.std.specs.Prelude.{◌==◌, ◌||◌, IsTrue}
 use Rattle.std.specs.List.{AllByRecursion}
-use Rattle.std.proofs.lemmas.Bool.{and_from, and_parts}
+use Rattle.std.proofs.lemmas.Bool.{and_from, and_parts, or_cases, or_left, or_right}
 use Rattle.hac_model.specs.Tree.Depends.{named_in}
 use Rattle.hac_model.specs.Tree.Events.{are_directories, may_ask}
 use Rattle.hac_model.specs.Query.Formula.{Formula}
@@ -16,7 +16,7 @@ use Rattle.hac_model.specs.declared.states.Body.{Body}
 use Rattle.hac_model.specs.declared.states.Body.TheVariants.{Semantic}
 use Rattle.hac_model.specs.declared.states.Session.{Session}
 use Rattle.hac_model.specs.declared.states.State.{State}
-use Rattle.hac_model.proofs.ChangeLemmas.{all-weaker, or-cases, or-left, or-right}
+use Rattle.hac_model.proofs.ChangeLemmas.{all-weaker}
 
 -- the directories of one state are directories of another
 abbrev pub DirectoriesStay : State → State → Type 0
@@ -32,7 +32,7 @@ directories-stay s t (d ∷ ds) stay h =
     let parts = and_parts (is_directory_at s.entries d) (are_directories s ds) h in
     and_from (is_directory_at t.entries d) (are_directories t ds)
     (stay d (ap (λ (b : Bool). b || has ds d) (eq-eqb d d refl)) parts.0)
-    (directories-stay s t ds (λ e inside. stay e (or-right (d == e) (has ds e) inside)) parts.1)
+    (directories-stay s t ds (λ e inside. stay e (or_right (d == e) (has ds e) inside)) parts.1)
 
 -- a query may be asked where the directories that it names stay
 pub ask-stays : (s t : State) (query : Formula ℕ) → ((d : ℕ) → has (named_in query) d ≡ true → is_directory_at s.entries d ≡ true → is_directory_at t.entries d ≡ true) → may_ask s query ≡ true → may_ask t query ≡ true
@@ -46,9 +46,9 @@ marks-stay test kept xs stay h = record { rise = h.rise; there = all-weaker (λ 
 
 -- what may be added stays so, where directories and items stay
 pub added-stays : (s t : State) (n : ℕ) → (is_directory_at s.entries n ≡ true → is_directory_at t.entries n ≡ true) → (is_item s n ≡ true → is_item t n ≡ true) → can_be_added s n ≡ true → can_be_added t n ≡ true
-added-stays s t n dirs items can = elim (or-cases (is_item s n) (is_directory_at s.entries n) can) [
-  | inl item ↦ or-left (is_item t n) (is_directory_at t.entries n) (items item)
-  | inr dir ↦ or-right (is_item t n) (is_directory_at t.entries n) (dirs dir)
+added-stays s t n dirs items can = elim (or_cases (is_item s n) (is_directory_at s.entries n) can) [
+  | inl item ↦ or_left (is_item t n) (is_directory_at t.entries n) (items item)
+  | inr dir ↦ or_right (is_item t n) (is_directory_at t.entries n) (dirs dir)
 ]
 
 -- what a directory asks stays sound where directories and items stay

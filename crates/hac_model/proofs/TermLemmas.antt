@@ -5,7 +5,7 @@ use Rattle.std.specs.Option.{option_map_or}
 use Rattle.std.specs.Ordering.{is_eq, is_le, is_lt, nat_cmp, ordering_reverse}
 use Rattle.std.specs.Cmp.Lexicographic.{slice_cmp}
 use Rattle.std.specs.List.{AllByRecursion, list_any}
-use Rattle.std.proofs.lemmas.Bool.{and_from, and_parts, leb-true, le-leb}
+use Rattle.std.proofs.lemmas.Bool.{and_from, and_parts, le-leb, leb-true, or_cases, or_left, or_right}
 use Rattle.std.proofs.lemmas.Cmp.{nat_list_cmp_total}
 use Rattle.std.proofs.lemmas.Map.Text.{is_eq-slice_cmp}
 use Rattle.std.proofs.lemmas.Slice.Eq.{bytes_eq-Decides}
@@ -25,7 +25,8 @@ use Rattle.hac_model.specs.declared.states.Entry.{Entry}
 use Rattle.hac_model.specs.declared.states.State.{State}
 use Rattle.hac_model.specs.declared.terms.Term.{Term}
 use Rattle.hac_model.specs.declared.terms.Term.TheVariants.{Word, Prefix}
-use Rattle.hac_model.proofs.ChangeLemmas.{all-joined, or-cases, or-left, or-right}
+use Rattle.hac_model.proofs.ChangeLemmas.{all-joined}
+use Rattle.hac_model.proofs.NameOrderLemmas.{less-from}
 
 -- The order of terms.
 
@@ -75,16 +76,11 @@ pub term-irreflexive : (a : Term) → is_term_before a a ≡ false
 term-irreflexive (Word x) = letters-irreflexive x
 term-irreflexive (Prefix x) = letters-irreflexive x
 
-less-from : (o : Ordering) → is_lt o ≡ true → o ≡ Less
-less-from Less h = refl
-less-from Equal h = absurd cc
-less-from Greater h = absurd cc
-
-letters-trans : (x y z : List ℕ) → is_lt (slice_cmp nat_cmp x y) ≡ true → is_lt (slice_cmp nat_cmp y z) ≡ true → is_lt (slice_cmp nat_cmp x z) ≡ true
+pub letters-trans : (x y z : List ℕ) → is_lt (slice_cmp nat_cmp x y) ≡ true → is_lt (slice_cmp nat_cmp y z) ≡ true → is_lt (slice_cmp nat_cmp x z) ≡ true
 letters-trans x y z h k = ap is_lt (nat_list_cmp_total.trans x y z (less-from (slice_cmp nat_cmp x y) h) (less-from (slice_cmp nat_cmp y z) k))
 
 -- letters that don't come behind others are before them, or the same
-letters-cases : (x y : List ℕ) → is_le (slice_cmp nat_cmp x y) ≡ true → (is_lt (slice_cmp nat_cmp x y) ≡ true) ⊎ (x ≡ y)
+pub letters-cases : (x y : List ℕ) → is_le (slice_cmp nat_cmp x y) ≡ true → (is_lt (slice_cmp nat_cmp x y) ≡ true) ⊎ (x ≡ y)
 letters-cases x y h = cases (slice_cmp nat_cmp x y) (λ same. (bytes_eq-Decides x y).0 (sym (is_eq-slice_cmp x y) ∙ same)) h
   where
     cases : (o : Ordering) → (is_eq o ≡ true → x ≡ y) → is_le o ≡ true → (is_lt o ≡ true) ⊎ (x ≡ y)
@@ -100,14 +96,14 @@ letters-le x y h = le (slice_cmp nat_cmp x y) h
     le Equal h = absurd cc
     le Greater h = absurd cc
 
-le-then : (x y z : List ℕ) → is_le (slice_cmp nat_cmp x y) ≡ true → is_lt (slice_cmp nat_cmp y z) ≡ true → is_lt (slice_cmp nat_cmp x z) ≡ true
+pub le-then : (x y z : List ℕ) → is_le (slice_cmp nat_cmp x y) ≡ true → is_lt (slice_cmp nat_cmp y z) ≡ true → is_lt (slice_cmp nat_cmp x z) ≡ true
 le-then x y z h k = by (letters-cases x y h)
   where
     by : (is_lt (slice_cmp nat_cmp x y) ≡ true) ⊎ (x ≡ y) → is_lt (slice_cmp nat_cmp x z) ≡ true
     by (inl less) = letters-trans x y z less k
     by (inr even) = ap (λ (w : List ℕ). is_lt (slice_cmp nat_cmp w z)) even ∙ k
 
-then-le : (x y z : List ℕ) → is_lt (slice_cmp nat_cmp x y) ≡ true → is_le (slice_cmp nat_cmp y z) ≡ true → is_lt (slice_cmp nat_cmp x z) ≡ true
+pub then-le : (x y z : List ℕ) → is_lt (slice_cmp nat_cmp x y) ≡ true → is_le (slice_cmp nat_cmp y z) ≡ true → is_lt (slice_cmp nat_cmp x z) ≡ true
 then-le x y z h k = by (letters-cases y z k)
   where
     by : (is_lt (slice_cmp nat_cmp y z) ≡ true) ⊎ (y ≡ z) → is_lt (slice_cmp nat_cmp x z) ≡ true
@@ -170,33 +166,33 @@ put-of a (first ∷ ts) term h =
     elim (is_term_before a first) as (λ b. is_term_before a first ≡ b → is_of (if b then a ∷ first ∷ ts else (if is_term_before first a then first ∷ put_term a ts else first ∷ ts)) term ≡ true) [
       | true ↦ (λ _. h)
       | false ↦ (λ apart. elim (is_term_before first a) as (λ b. is_term_before first a ≡ b → is_of (if b then first ∷ put_term a ts else first ∷ ts) term ≡ true) [
-        | true ↦ (λ _. behind (λ among. put-of a ts term among) (or-cases (is_same_term a term) (is_same_term first term || is_of ts term) h))
-        | false ↦ (λ also. same (terms-even a first apart also) (or-cases (is_same_term a term) (is_same_term first term || is_of ts term) h))
+        | true ↦ (λ _. behind (λ among. put-of a ts term among) (or_cases (is_same_term a term) (is_same_term first term || is_of ts term) h))
+        | false ↦ (λ also. same (terms-even a first apart also) (or_cases (is_same_term a term) (is_same_term first term || is_of ts term) h))
       ] refl)
     ] refl
   where
     behind : ((is_same_term a term || is_of ts term) ≡ true → is_of (put_term a ts) term ≡ true) → (is_same_term a term ≡ true) ⊎ ((is_same_term first term || is_of ts term) ≡ true) → (is_same_term first term || is_of (put_term a ts) term) ≡ true
-    behind put (inl own) = or-right (is_same_term first term) (is_of (put_term a ts) term) (put (or-left (is_same_term a term) (is_of ts term) own))
-    behind put (inr other) = old (or-cases (is_same_term first term) (is_of ts term) other)
+    behind put (inl own) = or_right (is_same_term first term) (is_of (put_term a ts) term) (put (or_left (is_same_term a term) (is_of ts term) own))
+    behind put (inr other) = old (or_cases (is_same_term first term) (is_of ts term) other)
       where
         old : (is_same_term first term ≡ true) ⊎ (is_of ts term ≡ true) → (is_same_term first term || is_of (put_term a ts) term) ≡ true
-        old (inl here) = or-left (is_same_term first term) (is_of (put_term a ts) term) here
-        old (inr there) = or-right (is_same_term first term) (is_of (put_term a ts) term) (put (or-right (is_same_term a term) (is_of ts term) there))
+        old (inl here) = or_left (is_same_term first term) (is_of (put_term a ts) term) here
+        old (inr there) = or_right (is_same_term first term) (is_of (put_term a ts) term) (put (or_right (is_same_term a term) (is_of ts term) there))
 
     same : a ≡ first → (is_same_term a term ≡ true) ⊎ ((is_same_term first term || is_of ts term) ≡ true) → (is_same_term first term || is_of ts term) ≡ true
-    same even (inl own) = or-left (is_same_term first term) (is_of ts term) (ap (λ (t : Term). is_same_term t term) (sym even) ∙ own)
+    same even (inl own) = or_left (is_same_term first term) (is_of ts term) (ap (λ (t : Term). is_same_term t term) (sym even) ∙ own)
     same even (inr other) = other
 
 pub order-of : (ts : List Term) → AllByRecursion (λ t. is_of (terms_in_order ts) t ≡ true) ts
 order-of [] = tt
 order-of (t ∷ ts) = (
-  put-of t (terms_in_order ts) t (or-left (is_same_term t t) (is_of (terms_in_order ts) t) (same-own t)),
+  put-of t (terms_in_order ts) t (or_left (is_same_term t t) (is_of (terms_in_order ts) t) (same-own t)),
   all-weaker-of ts (order-of ts),
 )
   where
     all-weaker-of : (us : List Term) → AllByRecursion (λ u. is_of (terms_in_order ts) u ≡ true) us → AllByRecursion (λ u. is_of (put_term t (terms_in_order ts)) u ≡ true) us
     all-weaker-of [] h = tt
-    all-weaker-of (u ∷ us) h = (put-of t (terms_in_order ts) u (or-right (is_same_term t u) (is_of (terms_in_order ts) u) h.0), all-weaker-of us h.1)
+    all-weaker-of (u ∷ us) h = (put-of t (terms_in_order ts) u (or_right (is_same_term t u) (is_of (terms_in_order ts) u) h.0), all-weaker-of us h.1)
 
 -- What was told.
 

@@ -4,7 +4,7 @@ use Rattle.std.proofs.Common.{◌≡◌, ℕ, Bool, true, false, List, [], ◌�
 use Rattle.std.specs.Prelude.{◌⊎◌, ◌||◌, not, filter, if◌then◌else◌, Option, Some, None, is_some}
 use Rattle.std.specs.Option.{option_map_or}
 use Rattle.std.specs.List.{AllByRecursion}
-use Rattle.std.proofs.lemmas.Bool.{not-true}
+use Rattle.std.proofs.lemmas.Bool.{not-true, or_left, or_right}
 use Rattle.hac_model.specs.Query.Formula.{Formula}
 use Rattle.hac_model.specs.Query.Queries.{terms_of}
 use Rattle.hac_model.specs.Query.Terms.{is_same_term, is_term_before}
@@ -14,7 +14,7 @@ use Rattle.hac_model.specs.Tree.Mounts.{terms_in_order, is_kept, kept_for}
 use Rattle.hac_model.specs.Tree.Valid.{TermsRise}
 use Rattle.hac_model.specs.declared.states.Answer.{Answer}
 use Rattle.hac_model.specs.declared.terms.Term.{Term}
-use Rattle.hac_model.proofs.ChangeLemmas.{all-weaker, or-left, or-right}
+use Rattle.hac_model.proofs.ChangeLemmas.{all-weaker}
 use Rattle.hac_model.proofs.TermLemmas.{TermsChain, answers-kept, is_of, order-chain, order-of, same-even, same-own, term-irreflexive, term-trans, terms-even}
 
 -- An answer is put among others.
@@ -196,7 +196,7 @@ pub told-sound : (P : Answer → Type 0) (query : Formula ℕ) (answers : List A
 told-sound P query answers told h k = with-all P (answers_to (unanswered query answers) told) answers h k
 
 pub told-still : (query : Formula ℕ) (answers : List Answer) (told : List (List ℕ)) (term : Term) → is_kept answers term ≡ true → is_kept (with_answers (answers_to (unanswered query answers) told) answers) term ≡ true
-told-still query answers told term h = with-kept (answers_to (unanswered query answers) told) answers term (or-right (is_kept (answers_to (unanswered query answers) told) term) (is_kept answers term) h)
+told-still query answers told term h = with-kept (answers_to (unanswered query answers) told) answers term (or_right (is_kept (answers_to (unanswered query answers) told) term) (is_kept answers term) h)
 
 -- each term of the query has an answer then
 pub told-kept : (query : Formula ℕ) (answers : List Answer) (told : List (List ℕ)) → length told ≡ length (unanswered query answers) → AllByRecursion (λ term. is_kept (with_answers (answers_to (unanswered query answers) told) answers) term ≡ true) (terms_of query)
@@ -209,15 +209,15 @@ told-kept query answers told even = all-weaker (λ term. is_of (terms_in_order (
           | true ↦ (λ same _.
               let even : t ≡ term = same-even t term same in
               ap (λ (b : Bool). is_of (if not b then t ∷ filter (λ t. not (is_kept answers t)) ts else filter (λ t. not (is_kept answers t)) ts) term) (ap (is_kept answers) even ∙ none)
-              ∙ or-left (is_same_term t term) (is_of (filter (λ t. not (is_kept answers t)) ts) term) same)
+              ∙ or_left (is_same_term t term) (is_of (filter (λ t. not (is_kept answers t)) ts) term) same)
           | false ↦ (λ other h. elim (is_kept answers t) as (λ b. is_of (if not b then t ∷ filter (λ t. not (is_kept answers t)) ts else filter (λ t. not (is_kept answers t)) ts) term ≡ true) [
             | true ↦ left-of ts term none h
-            | false ↦ or-right (is_same_term t term) (is_of (filter (λ t. not (is_kept answers t)) ts) term) (left-of ts term none h)
+            | false ↦ or_right (is_same_term t term) (is_of (filter (λ t. not (is_kept answers t)) ts) term) (left-of ts term none h)
           ])
         ] refl h
 
     each : (term : Term) → is_of (terms_in_order (terms_of query)) term ≡ true → is_kept (with_answers (answers_to (unanswered query answers) told) answers) term ≡ true
     each term inside = elim (is_kept answers term) as (λ b. is_kept answers term ≡ b → is_kept (with_answers (answers_to (unanswered query answers) told) answers) term ≡ true) [
       | true ↦ (λ kept. told-still query answers told term kept)
-      | false ↦ (λ none. with-kept (answers_to (unanswered query answers) told) answers term (or-left (is_kept (answers_to (unanswered query answers) told) term) (is_kept answers term) (answers-kept (unanswered query answers) told term even (left-of (terms_in_order (terms_of query)) term none inside))))
+      | false ↦ (λ none. with-kept (answers_to (unanswered query answers) told) answers term (or_left (is_kept (answers_to (unanswered query answers) told) term) (is_kept answers term) (answers-kept (unanswered query answers) told term even (left-of (terms_in_order (terms_of query)) term none inside))))
     ] refl

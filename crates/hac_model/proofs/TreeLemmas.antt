@@ -4,14 +4,13 @@ use Rattle.std.specs.Prelude.{◌⊎◌, ◌==◌, ◌&&◌, ◌||◌, if◌then
 use Rattle.std.specs.Option.{option_map, option_map_or}
 use Rattle.std.specs.List.{AllByRecursion}
 use Rattle.std.specs.Str.{bytes_eq}
-use Rattle.std.proofs.lemmas.Bool.{and_from, and_parts, cases_lt, eqb-true, ne_eqb}
+use Rattle.std.proofs.lemmas.Bool.{and_from, and_parts, cases_lt, eqb-true, ne_eqb, or_right}
 use Rattle.std.proofs.lemmas.Slice.Eq.{bytes_eq-Decides}
 use Rattle.hac_model.specs.Tree.{body_at, child, entry_at, is_directory, is_directory_at, is_document, is_file, is_file_at, is_holder_at, is_leaf, is_leaf_at, is_linkable, is_symlink, is_made_directory, is_mount, is_mount_at, is_live}
 use Rattle.hac_model.specs.Tree.Valid.{NamesDiffer, NumbersRise, is_in_place}
 use Rattle.hac_model.specs.declared.states.Body.{Body}
 use Rattle.hac_model.specs.declared.states.Body.TheVariants.{File, Dir, Symlink, Semantic, Mount, Document}
 use Rattle.hac_model.specs.declared.states.Entry.{Entry}
-use Rattle.hac_model.proofs.ChangeLemmas.{or-right}
 
 -- the root, or an entry
 abbrev pub Lives : List Entry → ℕ → Type 0
@@ -219,7 +218,7 @@ file-leaf es n h =
 
 -- a mount is a directory
 pub mount-directory : (es : List Entry) (d : ℕ) → is_mount_at es d ≡ true → is_directory_at es d ≡ true
-mount-directory es d h = or-right (d == 0) (is_made_directory es d) (elim (entry_at es d) as (λ o. option_map_or is_mount (option_map (λ (e : Entry). e.body) o) false ≡ true → option_map_or is_directory (option_map (λ (e : Entry). e.body) o) false ≡ true) [
+mount-directory es d h = or_right (d == 0) (is_made_directory es d) (elim (entry_at es d) as (λ o. option_map_or is_mount (option_map (λ (e : Entry). e.body) o) false ≡ true → option_map_or is_directory (option_map (λ (e : Entry). e.body) o) false ≡ true) [
   | None ↦ (λ h. absurd cc)
   | Some e ↦ (λ h. body e.body h)
 ] h)

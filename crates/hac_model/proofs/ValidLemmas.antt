@@ -12,7 +12,7 @@ use Rattle.hac_model.specs.Tree.Limits.{are_answers_few, first_passed, is_text, 
 use Rattle.hac_model.specs.Tree.Links.{is_semantic, parent_of}
 use Rattle.hac_model.specs.Tree.Names.{is_name}
 use Rattle.hac_model.specs.Tree.Sessions.{is_busy}
-use Rattle.hac_model.specs.Tree.{child, empty, entry_at, is_directory, is_directory_at, is_document, is_document_at, is_file, is_holder_at, is_leaf_at, is_made_directory, is_mount, is_mount_at, is_symlink, query_in}
+use Rattle.hac_model.specs.Tree.{child, empty, entry_at, is_directory, is_directory_at, is_document, is_document_at, is_file, is_holder_at, is_leaf_at, is_linkable, is_made_directory, is_mount, is_mount_at, is_symlink, query_in}
 use Rattle.hac_model.specs.Tree.Valid.{IsLayout, IsSound, NumbersRise, is_in_place}
 use Rattle.hac_model.specs.declared.events.Event.TheVariants.{Mark, Mv, Rmdir, Setq, Smkdir}
 use Rattle.hac_model.specs.declared.limits.LimitWord.{LimitWord}
@@ -386,3 +386,11 @@ rmdir-parts s dir h =
 -- an event that is accepted fits, and leads to a state that exceeds no limit
 pub accepted-parts : (possible : Bool) (passes : Option LimitWord) → (possible && is_none passes) ≡ true → (possible ≡ true) × (passes ≡ None)
 accepted-parts possible passes h = let parts = and_parts possible (is_none passes) h in (parts.0, none_from passes parts.1)
+
+pub indexed-linkable : (body : Body) → is_linkable (indexed body) ≡ is_linkable body
+indexed-linkable (File text dirty shown) = refl
+indexed-linkable other = refl
+
+pub indexed-document : (body : Body) → is_document (indexed body) ≡ is_document body
+indexed-document (File text dirty shown) = refl
+indexed-document other = refl

@@ -178,7 +178,7 @@ returns-Decides s d = (towards, back)
     back (k, (next, edge, more)) = any-among (λ next. reaches s next d) (depends s d) next edge (reaches-told s next d (k, more))
 
 -- what is tested of all entries is tested of each semantic directory
-all-numbered : (test : ℕ → Bool) (es : List Entry) (n : ℕ) → list_all (λ e. test e.number) es ≡ true → Among (semantic_numbers es) n → test n ≡ true
+pub all-numbered : (test : ℕ → Bool) (es : List Entry) (n : ℕ) → list_all (λ e. test e.number) es ≡ true → Among (semantic_numbers es) n → test n ≡ true
 all-numbered test [] n h inside = absurd inside
 all-numbered test (e ∷ es) n h inside =
     let parts = and_parts (test e.number) (list_all (λ e. test e.number) es) h in
@@ -190,11 +190,11 @@ all-numbered test (e ∷ es) n h inside =
     among true here later (inr more) = later more
     among false here later more = later more
 
-all-tested : (test : Entry → Bool) (es : List Entry) → ((e : Entry) → test e ≡ true) → list_all test es ≡ true
+pub all-tested : (test : Entry → Bool) (es : List Entry) → ((e : Entry) → test e ≡ true) → list_all test es ≡ true
 all-tested test [] each = refl
 all-tested test (e ∷ es) each = and_from (test e) (list_all test es) (each e) (all-tested test es each)
 
-acyclic-Decides : (s : State) → Decides (is_acyclic s) (IsAcyclic s)
+pub acyclic-Decides : (s : State) → Decides (is_acyclic s) (IsAcyclic s)
 unfolding is_acyclic
 acyclic-Decides s = (towards, back)
   where

@@ -14,11 +14,11 @@ use Rattle.hac_model.specs.Script.PathWords.{parts, is_part, is_long, is_bad, ha
 use Rattle.hac_names.specs.Laws.{PrintedPathIsRead}
 use Rattle.hac_model.proofs.WordLemmas.{leads_down}
 
-no_slash_byte : (b : ℕ) → is_name_byte b ≡ true → is_slash b ≡ false
+pub no_slash_byte : (b : ℕ) → is_name_byte b ≡ true → is_slash b ≡ false
 no_slash_byte b h = grind (arith, nat_tests)
 
 -- a part has no slash
-no_slash : (bytes : List ℕ) → is_part bytes ≡ true → All (λ b. is_slash b ≡ false) bytes
+pub no_slash : (bytes : List ℕ) → is_part bytes ≡ true → All (λ b. is_slash b ≡ false) bytes
 no_slash bytes h k d within =
     no_slash_byte (get_or bytes k d) (true_from_ne_false (is_name_byte (get_or bytes k d)) (λ bad. both_ways (is_part bytes) (list_all_at is_name_byte bytes k d within bad) h))
 
@@ -34,13 +34,13 @@ parts-slashed name (next ∷ names) h =
     ∙ ap (λ ps. name ∷ ps) (parts-slashed next names p.1)
 
 -- names break no rule of parts
-all_parts : (path : List (List ℕ)) → are_names path ≡ true → list_all is_part path ≡ true
+pub all_parts : (path : List (List ℕ)) → are_names path ≡ true → list_all is_part path ≡ true
 all_parts [] h = refl
 all_parts (name ∷ names) h =
     let p = and_parts (is_name name) (are_names names) h in
     and_from (is_part name) (list_all is_part names) (leads_down name p.0).part (all_parts names p.1)
 
-none_long : (path : List (List ℕ)) → are_names path ≡ true → list_any is_long path ≡ false
+pub none_long : (path : List (List ℕ)) → are_names path ≡ true → list_any is_long path ≡ false
 none_long [] h = refl
 none_long (name ∷ names) h =
     let p = and_parts (is_name name) (are_names names) h in

@@ -40,7 +40,7 @@ name_up xs n =
     let e : length (take (length xs - 1) xs) - n ≡ length xs - (n + 1) = omega (arith, length-take (length xs - 1) xs) in
     rw e (take-take (length xs - (n + 1)) (length xs - 1) xs (omega arith))
 
-nothing_left : (n : ℕ) → without_last n [] ≡ []
+pub nothing_left : (n : ℕ) → without_last n [] ≡ []
 nothing_left n = take_all _ [] (omega arith)
 
 length_up : (xs : List (List ℕ)) → length (without_last 1 xs) ≡ length xs - 1
@@ -98,7 +98,7 @@ absolute_by true up part word h = h
 absolute_by false true part word h = h
 absolute_by false false part word h = grind arith
 
-relative-absolute : (parts : List (List ℕ)) → (relative parts).absolute ≡ false
+pub relative-absolute : (parts : List (List ℕ)) → (relative parts).absolute ≡ false
 relative-absolute [] = refl
 relative-absolute (part ∷ parts) = absolute_by (is_idle part) (is_up part) part (relative parts) (relative-absolute parts)
 

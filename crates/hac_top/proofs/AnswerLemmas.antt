@@ -1,23 +1,22 @@
 -- What an answer does: its command is stored, its reply is told, and the index steps behind it are stored.
-use Rattle.std.proofs.Common.{◌≡◌, ℕ, zero, suc, ◌≤◌, rules, true, false, Bool, List, [], ◌∷◌, ◌++◌, length, take, ◌+◌, refl, ap, sym, subst, ◌∙◌, append-nil, arith, inl, inr}
-use Rattle.std.specs.Prelude.{◌⊎◌, ◌||◌, if◌then◌else◌, filter, Option, None, Some, Result, Ok, Err, IfErr, OnOk}
+use Rattle.std.proofs.Common.{◌≡◌, ℕ, ◌≤◌, rules, true, false, Bool, List, [], ◌∷◌, ◌++◌, length, take, ◌+◌, refl, ap, sym, subst, ◌∙◌, append-nil, arith, inl, inr}
+use Rattle.std.specs.Prelude.{◌⊎◌, ◌||◌, Option, None, Some, Result, Ok, Err, IfErr, OnOk}
 use Rattle.std.specs.Option.{IfSome}
 use Rattle.hac_disk.specs.Seen.{DiskSeen, IsLawful}
 use Rattle.hac_disk.proofs.Moments.{then_run, weaken}
 use Rattle.hac_model.specs.Run.Costs.{answering_line}
 use Rattle.hac_model.specs.Tree.Costs.{costs}
 use Rattle.hac_model.specs.Tree.Events.{apply_all}
-use Rattle.hac_model.specs.Run.Play.{Setting, Turn, after_events, all_events, can_step, has_refusal, is_refused, nothing_given, refused_turn, steps_behind, stored_setting, turns_text}
+use Rattle.hac_model.specs.Run.Play.{Setting, Turn, after_events, all_events, has_refusal, is_refused, nothing_given, refused_turn, steps_behind, stored_setting, turns_text}
 use Rattle.hac_model.specs.Script.Lines.{Item}
-use Rattle.hac_model.specs.Tree.Sessions.{is_stored, stored}
-use Rattle.hac_model.specs.declared.events.Event.TheVariants.{Step}
+use Rattle.hac_model.specs.Tree.Sessions.{stored}
 use Rattle.hac_model.specs.declared.replies.Refusal.{Refusal}
 use Rattle.hac_model.specs.declared.replies.Reply.TheVariants.{Refused}
 use Rattle.sem_mounts.specs.Seen.{Contents, SpacesSeen}
 use Rattle.hac_model.specs.declared.events.Event.{Event}
 use Rattle.hac_model.specs.declared.replies.Reply.{Reply}
 use Rattle.hac_model.specs.declared.states.State.{State}
-use Rattle.hac_model.proofs.PlayLemmas.{apply_all-append, stored-all}
+use Rattle.hac_model.proofs.PlayLemmas.{apply_all-append, steps-stored, stored-all}
 use Rattle.hac_outside.specs.Seen.{SinkSeen}
 use Rattle.hac_store.specs.Stores.{Bears, Seen, Stands}
 use Rattle.hac_store.specs.declared.fault.StoreFault.{StoreFault}
@@ -40,7 +39,7 @@ use Rattle.hac_top.proofs.CrashLemmas.{holds-weaker, tree-more, tree-then}
 use Rattle.hac_top.proofs.StoringLemmas.{stores-nothing, told-since}
 use Rattle.hac_top.proofs.TickLemmas.{ticked, turn-ticks}
 use Rattle.hac_top.proofs.AskLemmas.{fails-same}
-use Rattle.hac_top.proofs.ReplyLemmas.{appends-nothing}
+use Rattle.std.proofs.KnownBytes.{Appends-nil}
 
 -- the events of a turn that stores nothing before its reply are the steps behind it
 told-events : (tick : ℕ) (setting : Setting) (reply : Reply) → all_events (told_turn tick setting reply ∷ []) ≡ steps_behind tick setting
@@ -56,22 +55,12 @@ some-steps tick setting reply now tree =
     let all = subst (λ (es : List Event). IsTreeAfter (stored setting.state) es now) (sym (told-events tick setting reply)) tree in
     record { count = all.count; within = all.within; is = all.is; answered = omega arith; no_further = λ more. absurd (omega (arith, more)) }
 
--- the steps that follow by themselves are stored
-steps-kept : (n : ℕ) (setting : Setting) → filter is_stored (steps_behind n setting) ≡ steps_behind n setting
-steps-kept zero setting = refl
-steps-kept (suc n) setting =
-    let next = after_events setting (Step ∷ []) in
-    elim (can_step setting) as (λ b. filter is_stored (if b then Step ∷ steps_behind n next else []) ≡ (if b then Step ∷ steps_behind n next else [])) [
-      | true ↦ ap (λ (events : List Event). Step ∷ events) (steps-kept n next)
-      | false ↦ refl
-    ]
-
 -- what a turn with steps leads to
 ticked-leads : (tick : ℕ) (setting : Setting) (turn : Turn) → stored turn.after.state ≡ apply_all (stored setting.state) turn.events →
     stored (ticked tick turn).after.state ≡ apply_all (stored setting.state) (all_events (ticked tick turn ∷ []))
 ticked-leads tick setting turn led =
     let steps = steps_behind tick turn.after in
-    stored-all steps turn.after.state ∙ ap (apply_all (stored turn.after.state)) (steps-kept tick turn.after) ∙ ap (λ (s : State). apply_all s steps) led
+    stored-all steps turn.after.state ∙ ap (apply_all (stored turn.after.state)) (steps-stored tick turn.after) ∙ ap (λ (s : State). apply_all s steps) led
     ∙ sym (apply_all-append turn.events steps (stored setting.state)) ∙ ap (apply_all (stored setting.state)) (sym (ticked-events tick turn))
 
 or-none : (b : Bool) → (b || false) ≡ b
@@ -366,7 +355,7 @@ none-told disk lawful spaces store sink tick was probes place =
       told = told spaces.contents;
       refused = sym (or-none was);
       ok = record {
-        replies = record { written = appends-nothing sink.written; passed = λ none. none; faults = refl };
+        replies = record { written = Appends-nil sink.written; passed = λ none. none; faults = refl };
         on = record { setting = refl; intact = refl; place = place; stands = λ stands. stands };
         stores = stores-nothing disk lawful store.setting [];
       };

@@ -6,7 +6,7 @@ use Rattle.std.proofs.lemmas.Bool.{and_parts}
 use Rattle.hac_model.specs.Run.Answers.{Refuses, first_cause}
 use Rattle.hac_model.specs.Run.Given.{no_answers}
 use Rattle.hac_model.specs.Run.Refusals.{cause, early_cause, late_cause}
-use Rattle.hac_model.specs.Tree.Limits.{answer_limits, are_answers_few, counts, first_passed, layout_limits, passed_limit}
+use Rattle.hac_model.specs.Tree.Limits.{are_answers_few, first_passed, passed_limit}
 use Rattle.hac_model.specs.Tree.Mounting.{are_documents_few}
 use Rattle.hac_model.specs.Tree.Valid.{IsValid}
 use Rattle.hac_model.specs.declared.limits.Limit.{Limit}
@@ -31,23 +31,17 @@ use Rattle.hac_model.specs.declared.spaces.Answers.{Answers}
 use Rattle.hac_model.specs.declared.spaces.Asks.{Asks}
 use Rattle.hac_model.proofs.LimitLemmas.{none-append}
 use Rattle.hac_top.proofs.DecidingLemmas.{reading-is}
-
-none-is : {A : Type 0} (o : Option A) → is_none o ≡ true → o ≡ None
-none-is None h = refl
-none-is (Some x) h = absurd (true≢false (sym h))
+use Rattle.hac_model.proofs.ValidLemmas.{none_from}
+use Rattle.hac_core.proofs.DraftLemmas.{valid-limits}
 
 -- where no limit of two lists is passed, none of the first is
 front-passes : (xs ys : List Limit) → first_passed (xs ++ ys) ≡ None → first_passed xs ≡ None
 front-passes xs ys none =
-    none-is (first_passed xs) (and_parts (is_none (first_passed xs)) (is_none (first_passed ys)) (sym (none-append xs ys) ∙ ap is_none none)).0
-
-layout-passes : (s : State) → IsValid s → first_passed (layout_limits s.version (counts s)) ≡ None
-unfolding passed_limit
-layout-passes s valid = front-passes (layout_limits s.version (counts s)) (answer_limits s.version (counts s)) valid.layout.limits
+    none_from (first_passed xs) (and_parts (is_none (first_passed xs)) (is_none (first_passed ys)) (sym (none-append xs ys) ∙ ap is_none none)).0
 
 -- nothing refuses it before spaces answer
 pub counts-early : (s : State) → IsValid s → early_cause s Counts ≡ None
-counts-early s valid = ap (λ (passed : Option LimitWord). first_cause (option_map refusal.Limit passed ∷ None ∷ [])) (layout-passes s valid)
+counts-early s valid = ap (λ (passed : Option LimitWord). first_cause (option_map refusal.Limit passed ∷ None ∷ [])) (valid-limits s valid)
 
 -- nor behind that
 pub counts-free : (s : State) → IsValid s → cause no_answers s Counts ≡ None

@@ -1,5 +1,5 @@
 -- The replies to some turns that were written, whole and in part.
-use Rattle.std.proofs.Common.{◌≡◌, ℕ, ◌-◌, ◌<◌, ◌≤◌, true, false, List, [], ◌∷◌, ◌++◌, length, take, drop, refl, ap, sym, ◌∙◌, arith, append_assoc, length-append, append-nil, length-drop, subst, inl, inr, rules, Option, Some, None}
+use Rattle.std.proofs.Common.{◌≡◌, ℕ, ◌-◌, ◌<◌, ◌≤◌, true, false, List, [], ◌∷◌, ◌++◌, length, take, drop, refl, ap, sym, ◌∙◌, arith, append_assoc, length-append, append-nil, length-drop, subst, inl, inr, rules, Option}
 use Rattle.std.specs.Prelude.{◌⊎◌, codes, nat_le, Result, Ok, Err, OnErr}
 use Rattle.std.specs.List.{flat_map}
 use Rattle.std.specs.Io.KnownBytes.{Appends, Keeps}
@@ -14,25 +14,7 @@ use Rattle.hac_model.specs.Script.Printed.{ended, refusal_text, reply_text}
 use Rattle.hac_top.specs.Replies.{IsBeginning, WritesReplies, last_written}
 use Rattle.hac_store.specs.Held.{held}
 use Rattle.hac_top.specs.Run.{AppendsSome}
-
--- bytes and then more bytes are all of them
-pub appends-then : (a b c : Option (List ℕ)) (xs ys : List ℕ) → Appends a b xs → Appends b c ys → Appends a c (xs ++ ys)
-appends-then None b c xs ys first second = search rules
-appends-then (Some x) None c xs ys first second = absurd first
-appends-then (Some x) (Some y) None xs ys first second = absurd second
-appends-then (Some x) (Some y) (Some z) xs ys first second = second ∙ ap (λ (all : List ℕ). all ++ ys) first ∙ append_assoc x xs ys
-
--- a sink that keeps what it holds holds no less
-pub appends-keeps : (a b c : Option (List ℕ)) (bytes : List ℕ) → Appends a b bytes → Keeps b c → Appends a c bytes
-appends-keeps None b c bytes first second = search rules
-appends-keeps (Some x) None c bytes first second = absurd first
-appends-keeps (Some x) (Some y) None bytes first second = absurd second
-appends-keeps (Some x) (Some y) (Some z) bytes first second = second ∙ first
-
--- nothing was written
-pub appends-nothing : (a : Option (List ℕ)) → Appends a a []
-appends-nothing None = search rules
-appends-nothing (Some x) = sym (append-nil x)
+use Rattle.std.proofs.KnownBytes.{Appends-kept, Appends-trans}
 
 -- all bytes were written, and the flush failed or not
 pub some-flushed : {E : Type 0} (result : Result (Unit {0}) E) (a b c : SinkSeen) (bytes : List ℕ) → Writes a b bytes → Keeps b.written c.written → c.held_back ≤ b.held_back → OnErr result (WritesSome a c bytes)
@@ -41,7 +23,7 @@ some-flushed (Err fault) a b c bytes writes keeps less =
     record {
       count = length bytes;
       within = omega arith;
-      front = subst (λ (xs : List ℕ). Writes a c xs) (sym (take-length bytes)) (record { written = appends-keeps a.written b.written c.written bytes writes.written keeps; held = omega (arith, writes.held, less) });
+      front = subst (λ (xs : List ℕ). Writes a c xs) (sym (take-length bytes)) (record { written = Appends-kept a.written b.written c.written bytes writes.written keeps; held = omega (arith, writes.held, less) });
     }
 
 pub some-all : (a b : Option (List ℕ)) (bytes : List ℕ) → Appends a b bytes → AppendsSome a b bytes
@@ -120,7 +102,7 @@ cut-within all done (turn ∷ []) rest before mid after count is few written pas
             (sym text_is ∙ sym (take-append-drop count (turns_text (turn ∷ []))));
         written =
             subst (λ (ts : List Turn). Appends before.written after.written (turns_text ts ++ take count (turns_text (turn ∷ [])))) (sym (front-turns all done (turn ∷ rest) is))
-            (appends-then before.written mid.written after.written (turns_text done) (take count (turns_text (turn ∷ []))) written writes.written);
+            (Appends-trans before.written mid.written after.written (turns_text done) (take count (turns_text (turn ∷ []))) written writes.written);
         held = λ none. omega (arith, passed none, writes.held, no-less (take count (turns_text (turn ∷ []))) (take (length done) all));
       };
       front = (0, front-turns all done (turn ∷ rest) is ∙ sym (append-nil done));
@@ -136,7 +118,7 @@ cuts-replies all done now rest before mid after count is few written passed writ
           let all_is : all ≡ (done ++ now) ++ rest = is ∙ sym (append_assoc done now rest) in
           let all_written : Appends before.written after.written (turns_text (done ++ now)) =
           subst (λ (xs : List ℕ). Appends before.written after.written xs) (ap (λ (xs : List ℕ). turns_text done ++ xs) whole_text ∙ sym (text-append done now))
-          (appends-then before.written mid.written after.written (turns_text done) (take count (turns_text now)) written writes.written) in
+          (Appends-trans before.written mid.written after.written (turns_text done) (take count (turns_text now)) written writes.written) in
           record {
             replies = replies-whole all (done ++ now) rest before after all_is all_written (λ none. omega (arith, passed none, writes.held, ap length whole_text, last-text done now few));
             front = (length now, front-turns all (done ++ now) rest all_is ∙ ap (λ (ts : List Turn). done ++ ts) (sym (take-length now)));

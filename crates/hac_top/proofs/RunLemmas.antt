@@ -36,14 +36,11 @@ use Rattle.hac_top.proofs.GoesOn.{Goes, turns_of}
 use Rattle.hac_top.proofs.TakenLemmas.{no_rest}
 use Rattle.hac_top.proofs.TickLemmas.{given-further, play-line, scripts-joined, turns-joined}
 use Rattle.hac_top.proofs.ReplyLemmas.{cuts-replies, front-turns, text-append, replies-whole}
-use Rattle.hac_top.proofs.ReplyLemmas.{appends-then, appends-nothing}
+use Rattle.line_reader.proofs.TakeLemmas.{no_bytes}
+use Rattle.std.proofs.KnownBytes.{Appends-nil, Appends-trans}
 
 pub play-nothing : (given : Given) (setting : Setting) → play given setting [] ≡ []
 play-nothing given setting = ap (turns given setting) script-nothing
-
-no_bytes : (bytes : List ℕ) → length bytes ≡ 0 → bytes ≡ []
-no_bytes [] none = refl
-no_bytes (byte ∷ bytes) none = absurd (omega arith)
 
 pub refusal-append : (xs ys : List Turn) → has_refusal (xs ++ ys) ≡ (has_refusal xs || has_refusal ys)
 refusal-append xs ys = list_any-append (λ turn. is_refused turn.reply) xs ys
@@ -388,7 +385,7 @@ module _ (given later : Given) (first : Setting) where
         left_is = ap (λ (z : Setting). left_by z now) goes.left_is ∙ sym (left_by-append first done now) ∙ ap (left_by first) (sym more);
         written =
             subst (λ (xs : List ℕ). Appends before.written after.written xs) (sym (ap turns_text more ∙ text-append done now))
-            (appends-then before.written mid.written after.written (turns_text done) (turns_text now) goes.written written);
+            (Appends-trans before.written mid.written after.written (turns_text done) (turns_text now) goes.written written);
         refused_is = ap (λ (b : Bool). b || has_refusal now) goes.refused_is ∙ sym (ap has_refusal more ∙ refusal-append done now);
       }
 
@@ -430,7 +427,7 @@ module _ (given later : Given) (first : Setting) where
         line_is = record { one = drop-nil (due (first_line [])); whole_is = λ _. whole-unended [] refl; last = λ e. absurd cc };
         given_is = same ∙ ap (given_after given) (sym none);
         left_is = ap (left_by first) (sym none);
-        written = subst (λ (ts : List Turn). Appends sink.written sink.written (turns_text ts)) (sym none) (appends-nothing sink.written);
+        written = subst (λ (ts : List Turn). Appends sink.written sink.written (turns_text ts)) (sym none) (Appends-nil sink.written);
         refused_is = unrefused ∙ ap has_refusal (sym none);
       }
 

@@ -1,8 +1,8 @@
 -- The index steps that follow commands by themselves: the turns that have them, and how many there are.
 use Rattle.std.proofs.Common.{◌≡◌, ◌⊎◌, ℕ, zero, suc, ◌+◌, ◌<◌, ◌≤◌, Bool, true, false, List, [], ◌∷◌, ◌++◌, length, drop, length-append, refl, ap, sym, ◌∙◌, arith, inl, inr, ⊎_elim}
-use Rattle.std.specs.Prelude.{◌&&◌, nat_lt, if◌then◌else◌, replicate, min, Option, None, Some, Result, Ok, Err, IsTrue}
+use Rattle.std.specs.Prelude.{nat_lt, if◌then◌else◌, replicate, min, Option, None, Some, Result, Ok, Err, IsTrue}
 use Rattle.std.specs.Option.{option_map_or}
-use Rattle.std.proofs.lemmas.Bool.{cases_lt}
+use Rattle.std.proofs.lemmas.Bool.{and_from, and_left, and_right, cases_lt}
 use Rattle.std.proofs.lemmas.Bool.Decides.{nat_tests}
 use Rattle.hac_model.specs.Run.Play.{Given, Setting, Turn, after_events, answered_turn, can_step, command_turn, end_behind, given_behind, have_room, item_turn, left_by, line_turn, play, refused_turn, space_answers, steps_behind, turn_cause, turn_of, turns}
 use Rattle.hac_model.specs.Run.Given.{next_fault}
@@ -89,16 +89,6 @@ given-further given xs ys =
 
 -- How many steps there are.
 
-and-left : (a b : Bool) → a ≡ false → (a && b) ≡ false
-and-left a b none = ap (λ (x : Bool). x && b) none
-
-and-right : (a b : Bool) → b ≡ false → (a && b) ≡ false
-and-right true b none = none
-and-right false b none = refl
-
-and-both : (a b : Bool) → a ≡ true → b ≡ true → (a && b) ≡ true
-and-both a b first second = ap (λ (x : Bool). x && b) first ∙ second
-
 -- where more than one has room, one has, and the others have room behind it
 first-fits : (version : Version) (end n : ℕ) → fit_behind version end (suc n) 2 ≡ true → fit_behind version end 1 2 ≡ true
 first-fits version end n fits = grind (arith, nat_tests, fits)
@@ -123,12 +113,12 @@ steps-counted (suc tick) zero setting h few files fits most =
   where
     stuck : ((0 ≡ suc tick) ⊎ (0 ≡ dirty setting.state)) ⊎ (fit_behind setting.state.version setting.end 1 2 ≡ false) → can_step setting ≡ false
     stuck (inl (inl none)) = absurd (omega (arith, none))
-    stuck (inl (inr clean)) = and-left (nat_lt 0 (dirty setting.state)) (have_room setting (Step ∷ [])) (grind (arith, nat_tests, clean))
-    stuck (inr full) = and-right (nat_lt 0 (dirty setting.state)) (have_room setting (Step ∷ [])) (one-room setting false full)
+    stuck (inl (inr clean)) = and_left (nat_lt 0 (dirty setting.state)) (have_room setting (Step ∷ [])) (grind (arith, nat_tests, clean))
+    stuck (inr full) = and_right (nat_lt 0 (dirty setting.state)) (have_room setting (Step ∷ [])) (one-room setting false full)
 steps-counted (suc tick) (suc count) setting h few files fits most =
     let some : nat_lt 0 (dirty setting.state) ≡ true = grind (arith, nat_tests, files) in
     let due : IsTrue (accepted setting.state Step) = steps-due setting.state h.layout ∙ some in
-    let can : can_step setting ≡ true = and-both (nat_lt 0 (dirty setting.state)) (have_room setting (Step ∷ [])) some (one-room setting true (first-fits setting.state.version setting.end count fits)) in
+    let can : can_step setting ≡ true = and_from (nat_lt 0 (dirty setting.state)) (have_room setting (Step ∷ [])) some (one-room setting true (first-fits setting.state.version setting.end count fits)) in
     let clean : dirty setting.state ≡ dirty (apply setting.state Step) + 1 = steps-clean setting.state h.layout due in
     let next = after_events setting (Step ∷ []) in
     let end : end_behind setting.state.version setting.end (Step ∷ []) ≡ setting.end + 7 = end-steps setting.state.version 1 setting.end in

@@ -4,3 +4,4 @@ pub mod WordLemmas
 pub mod StandLemmas
 pub mod WindowLemmas
 pub mod FrontLemmas
+pub mod AskedLemmas

@@ -14,6 +14,7 @@ use Rattle.std.specs.declared.cmp.Ordering.TheVariants.{Less, Equal, Greater}
 use Rattle.std.proofs.lemmas.List.Kept.{IsStrictlySortedBy-dedup}
 use Rattle.std.proofs.lemmas.List.Sorted.{list_any-IsPermutation}
 use Rattle.hac_words.proofs.RunLemmas.{list_any-map}
+use Rattle.hac_model.proofs.ChangeLemmas.{or-turned}
 
 or-false : (a : Bool) → a ≡ (a || false)
 or-false true = refl
@@ -22,11 +23,6 @@ or-false false = refl
 or_again : (a b : Bool) → (a || b) ≡ (a || (a || b))
 or_again true b = refl
 or_again false b = refl
-
-or_swap : (a b c : Bool) → (a || (b || c)) ≡ (b || (a || c))
-or_swap true true c = refl
-or_swap true false c = refl
-or_swap false b c = refl
 
 or_between : (a b c : Bool) → ((a || b) || c) ≡ (b || (a || c))
 or_between true true c = refl
@@ -123,7 +119,7 @@ module _ {K : Type 0} (R : K → K → Ordering) where
       elim (R k x) as (λ r. R k x ≡ r → list_any p (match_ordering r (k ∷ x ∷ ks) (x ∷ ks) (x ∷ insert_key R ks k)) ≡ (p k || (p x || list_any p ks))) [
         | Less ↦ λ below. refl
         | Equal ↦ λ tie. or_again (p x) (list_any p ks) ∙ ap (λ y. p y || (p x || list_any p ks)) (sym (same k x tie))
-        | Greater ↦ λ above. ap (λ b. p x || b) (list_any-insert_key same p ks k) ∙ or_swap (p x) (p k) (list_any p ks)
+        | Greater ↦ λ above. ap (λ b. p x || b) (list_any-insert_key same p ks k) ∙ or-turned (p x) (p k) (list_any p ks)
       ] refl
 
   list_any-fold_from : IsAntisymmetric R → (p : K → Bool) (ks new : List K) → list_any p (fold (insert_key R) ks new) ≡ (list_any p ks || list_any p new)

@@ -7,9 +7,11 @@ use Rattle.hac_model.specs.Tree.Mounts.{kept_for}
 use Rattle.hac_model.specs.Tree.Valid.{RiseFrom, TermsRise}
 use Rattle.hac_model.specs.declared.states.Answer.{Answer}
 use Rattle.hac_model.specs.declared.terms.Term.{Term}
-use Rattle.hac_model.proofs.SortedLemmas.{Falls, all-weaker, get-inside, get-outside}
-use Rattle.hac_model.proofs.TermLemmas.{same-own, terms-even}
-use Rattle.hac_model.proofs.TermOrderLemmas.{before-differs, behind-differs, term-trans}
+use Rattle.hac_model.proofs.SortedLemmas.{Falls}
+use Rattle.hac_model.proofs.TermLemmas.{same-own, term-trans, terms-even}
+use Rattle.hac_model.proofs.TermOrderLemmas.{before-differs, behind-differs}
+use Rattle.hac_model.proofs.ChangeLemmas.{all-weaker}
+use Rattle.std.proofs.lemmas.Option.{slice_get-get_or, slice_get_past}
 
 -- what comes behind a term does behind an earlier one
 further : (x y : Term) (list : List Answer) → is_term_before x y ≡ true → AllByRecursion (λ a. is_term_before y a.term ≡ true) list → AllByRecursion (λ a. is_term_before x a.term ≡ true) list
@@ -63,12 +65,12 @@ module _ (term : Term) (list : List Answer) (rise : TermsRise None list) (i : �
   pub found-end : length list ≤ i → kept_for list term ≡ None
   found-end outside =
       kept-rank term None list rise ∙ ap (λ (k : ℕ). if_found term (slice_get list k)) (sym rank)
-      ∙ ap (λ (o : Option Answer). if_found term o) (get-outside list i outside)
+      ∙ ap (λ (o : Option Answer). if_found term o) (slice_get_past list i outside)
 
   pub found-at : (a : Answer) → i < length list → a ≡ get_or list i a → kept_for list term ≡ cond (is_term_before term a.term) None (Some a.documents)
   found-at a inside is =
       kept-rank term None list rise ∙ ap (λ (k : ℕ). if_found term (slice_get list k)) (sym rank)
-      ∙ ap (λ (o : Option Answer). if_found term o) (get-inside list i a inside)
+      ∙ ap (λ (o : Option Answer). if_found term o) (slice_get-get_or list i a inside)
       ∙ ap (λ (b : Answer). if_found term (Some b)) (sym is)
 
 -- the documents that are kept for a term rise, where all do

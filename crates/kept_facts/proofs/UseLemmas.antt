@@ -16,11 +16,13 @@ use Rattle.hac_model.specs.declared.states.Answer.{Answer}
 use Rattle.hac_model.specs.declared.states.Entry.{Entry}
 use Rattle.hac_model.specs.declared.states.State.{State}
 use Rattle.hac_model.specs.declared.terms.Term.{Term}
-use Rattle.hac_model.proofs.TermLemmas.{TermsChain, order-chain, same-own}
+use Rattle.hac_model.proofs.TermLemmas.{order-chain, term-trans, TermsChain}
 use Rattle.hac_model.proofs.TreeLemmas.{entry_at-low}
 use Rattle.kept_facts.specs.Answers.{AreTermsInOrder}
-use Rattle.hac_model.proofs.SortedLemmas.{Falls, all-weaker, get-inside, get-outside}
-use Rattle.hac_model.proofs.TermOrderLemmas.{before-differs, term-trans}
+use Rattle.hac_model.proofs.SortedLemmas.{Falls}
+use Rattle.hac_model.proofs.TermOrderLemmas.{never-both}
+use Rattle.hac_model.proofs.ChangeLemmas.{all-weaker}
+use Rattle.std.proofs.lemmas.Option.{slice_get-get_or, slice_get_past}
 
 -- Terms in order.
 
@@ -30,14 +32,6 @@ chain-order last (t ∷ ts) h = (h.0, chain-order (Some t) ts h.1)
 
 pub in-order : (ts : List Term) → AreTermsInOrder None (terms_in_order ts)
 in-order ts = chain-order None (terms_in_order ts) (order-chain ts)
-
--- of two terms one at most comes before the other
-before-once : (a b : Term) → is_term_before a b ≡ true → is_term_before b a ≡ false
-before-once a b h = other (is_term_before b a) refl
-  where
-    other : (v : Bool) → is_term_before b a ≡ v → is_term_before b a ≡ false
-    other false is = is
-    other true is = let never : true ≡ false = sym (same-own a) ∙ before-differs a a (term-trans a b a h is) in absurd cc
 
 behind-all : (x : Term) (ts : List Term) → AreTermsInOrder (Some x) ts → AllByRecursion (λ t. is_term_before x t ≡ true) ts
 behind-all x [] h = tt
@@ -70,7 +64,7 @@ module _ (a : Term) where
       elim (is_term_before t a) as (λ b. is_term_before t a ≡ b → put_term a (t ∷ ts) ≡ put_at (t ∷ ts) (cond b (1 + rank ts) 0) (slice_get (t ∷ ts) (cond b (1 + rank ts) 0))) [
         | true ↦ (λ before.
             let more : 1 + rank ts ≡ suc (rank ts) = omega arith in
-            (λ i. if before-once t a before i then a ∷ t ∷ ts else (if before i then t ∷ put_term a ts else t ∷ ts))
+            (λ i. if never-both t a before i then a ∷ t ∷ ts else (if before i then t ∷ put_term a ts else t ∷ ts))
             ∙ ap (λ (us : List Term). t ∷ us) (put-rank ts)
             ∙ put-first t ts (rank ts) (slice_get ts (rank ts))
             ∙ ap (λ (i : ℕ). put_at (t ∷ ts) i (slice_get (t ∷ ts) i)) (sym more))
@@ -80,11 +74,11 @@ module _ (a : Term) where
   module _ (ts : List Term) (i : ℕ) (is : i ≡ rank ts) where
     pub put-end : i ≡ length ts → put_term a ts ≡ insert ts i a
     put-end end =
-        put-rank ts ∙ ap (λ (k : ℕ). put_at ts k (slice_get ts k)) (sym is) ∙ ap (put_at ts i) (get-outside ts i (omega (arith, end)))
+        put-rank ts ∙ ap (λ (k : ℕ). put_at ts k (slice_get ts k)) (sym is) ∙ ap (put_at ts i) (slice_get_past ts i (omega (arith, end)))
 
     pub put-inside : (t : Term) → i < length ts → t ≡ get_or ts i t → put_term a ts ≡ cond (is_term_before a t) (insert ts i a) ts
     put-inside t inside there =
-        put-rank ts ∙ ap (λ (k : ℕ). put_at ts k (slice_get ts k)) (sym is) ∙ ap (put_at ts i) (get-inside ts i t inside)
+        put-rank ts ∙ ap (λ (k : ℕ). put_at ts k (slice_get ts k)) (sym is) ∙ ap (put_at ts i) (slice_get-get_or ts i t inside)
         ∙ ap (λ (u : Term). put_at ts i (Some u)) (sym there)
 
 -- Some terms are still to be put, and those that are in order are the ones that were.

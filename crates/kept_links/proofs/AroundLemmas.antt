@@ -7,13 +7,13 @@ use Rattle.std.proofs.lemmas.Bool.{cases_lt}
 use Rattle.std.proofs.lemmas.List.{append-nil}
 use Rattle.std.proofs.lemmas.List.Elements.{filter-append}
 use Rattle.std.proofs.Math.Bool.{and-false}
-use Rattle.hac_model.specs.Tree.{entry_at, is_document, is_linkable}
+use Rattle.hac_model.specs.Tree.{entry_at, is_document}
 use Rattle.hac_model.specs.Tree.Events.{accepted, apply, edited, is_inside, next_dirty}
 use Rattle.hac_model.specs.Tree.Links.{has, is_item, parent_of}
 use Rattle.hac_model.specs.Tree.Mounting.{answers_to, cleared, forgetting_such, fresh, is_document_of, is_gone, is_such_at, keeping, redocumented, without_such}
 use Rattle.hac_model.specs.Tree.Mounts.{terms_to_ask}
 use Rattle.hac_model.specs.Tree.Touched.{touched, touches}
-use Rattle.hac_model.specs.Tree.Valid.{IsValid, NumbersRise, RiseFrom}
+use Rattle.hac_model.specs.Tree.Valid.{IsValid, NumbersRise}
 use Rattle.hac_model.specs.declared.events.Event.{Event}
 use Rattle.hac_model.specs.declared.events.Event.TheVariants.{NewFile, Mark, Mv, Rm, Smount, Ssync, Sumount, Step}
 use Rattle.hac_model.specs.declared.states.Body.TheVariants.{Mount}
@@ -21,32 +21,25 @@ use Rattle.hac_model.specs.declared.states.Entry.{Entry}
 use Rattle.hac_model.specs.declared.states.State.{State}
 use Rattle.hac_model.proofs.ChangeLemmas.{entry_at-changed, entry_at-none, entry_at-other, touched as changed_one}
 use Rattle.hac_model.proofs.MapLemmas.{entry_at-mapped}
-use Rattle.hac_model.proofs.MarkLemmas.{has-filter}
+use Rattle.hac_model.proofs.MarkLemmas.{has-filter, rise-filter}
 use Rattle.hac_model.proofs.MountLayoutLemmas.{entry_at-documents}
 use Rattle.hac_model.proofs.RangeLemmas.{range-ends, range-has, range-joined, range-more, range-rises}
 use Rattle.hac_model.proofs.TreeLemmas.{entry_at-next}
 use Rattle.file_tree.specs.Answers.{numbers_of}
 use Rattle.file_tree.proofs.LiveLemmas.{numbers-has, numbers-rise}
-use Rattle.file_tree.proofs.RisingLemmas.{rise-lower, rising-one}
+use Rattle.file_tree.proofs.RisingLemmas.{rising-one}
 use Rattle.reeval.proofs.EventsLeave.{event-owes}
 use Rattle.kept_links.specs.Items.{is_other, is_passed_over, numbers_around, others, reach_of}
 use Rattle.kept_links.specs.declared.items.Reach.TheVariants.{Nothing, One, Any}
 use Rattle.kept_links.proofs.ItemLemmas.{next-grows, owed-item}
-
--- what passes rises too
-passing-rises : (p : ℕ → Bool) (bound : ℕ) (ns : List ℕ) → RiseFrom bound ns → RiseFrom bound (filter p ns)
-passing-rises p bound [] rise = tt
-passing-rises p bound (n ∷ ns) rise = elim (p n) as (λ b. RiseFrom bound (cond b (n ∷ filter p ns) (filter p ns))) [
-  | true ↦ (rise.0, passing-rises p (n + 1) ns rise.1)
-  | false ↦ rise-lower bound (n + 1) (filter p ns) (omega (arith, rise.0)) (passing-rises p (n + 1) ns rise.1)
-]
+use Rattle.hac_model.proofs.ListedLemmas.{none-item}
 
 -- below the next number, those that pass are entries' numbers, if no other passes
 passing-live : (p : ℕ → Bool) (es : List Entry) (next : ℕ) → NumbersRise 0 es next → ((k : ℕ) → k < next → entry_at es k ≡ None → p k ≡ false) → filter p (numbers_of es) ≡ filter p (range_with_len 0 next)
 passing-live p es next rise fails =
     rising-one 0 0 (filter p (numbers_of es)) (filter p (range_with_len 0 next))
-    (passing-rises p 0 (numbers_of es) (numbers-rise 0 0 es next rise (omega arith)))
-    (passing-rises p 0 (range_with_len 0 next) (range-rises 0 next))
+    (rise-filter p 0 (numbers_of es) (numbers-rise 0 0 es next rise (omega arith)))
+    (rise-filter p 0 (range_with_len 0 next) (range-rises 0 next))
     (λ k. has-filter p (numbers_of es) k ∙ same k ∙ sym (has-filter p (range_with_len 0 next) k))
   where
     below : (k : ℕ) → k < next → (o : Option Entry) → entry_at es k ≡ o → (p k && has (numbers_of es) k) ≡ (p k && has (range_with_len 0 next) k)
@@ -98,9 +91,6 @@ around-next before first n old new low so_far put =
 no-document : (s : State) (mount n : ℕ) → entry_at s.entries n ≡ None → is_document_of s mount n ≡ false
 no-document s mount n none = ap (λ (o : Option Entry). option_map_or is_document (option_map (λ (e : Entry). e.body) o) false && (parent_of s n == mount)) none
 
-no-item : (s : State) (n : ℕ) → entry_at s.entries n ≡ None → is_item s n ≡ false
-no-item s n none = ap (λ (o : Option Entry). option_map_or is_linkable (option_map (λ (e : Entry). e.body) o) false) none
-
 module _ (s : State) (n : ℕ) (low : n < s.next) (none : entry_at s.entries n ≡ None) where
   -- a mount that comes takes no number that was taken
   none-mounted : (dir : ℕ) (name space : List ℕ) (documents told : List (List ℕ)) → entry_at (apply s (Smount dir name space documents told)).entries n ≡ None
@@ -124,7 +114,7 @@ module _ (s : State) (n : ℕ) (low : n < s.next) (none : entry_at s.entries n �
 
   -- an event that may touch any item doesn't touch it
   touched-none : (event : Event) → reach_of s event ≡ Any → touches s event n ≡ false
-  touched-none (Mv entry dir name) reach = ap (λ (b : Bool). b && is_inside s n entry) (no-item s n none)
+  touched-none (Mv entry dir name) reach = ap (λ (b : Bool). b && is_inside s n entry) (none-item s n none)
   touched-none (Smount dir name space documents told) reach = no-document (apply s (Smount dir name space documents told)) s.next n (none-mounted dir name space documents told)
   touched-none (Ssync mount documents told) reach =
       ap (λ (b : Bool). b || is_document_of (apply s (Ssync mount documents told)) mount n) (no-document s mount n none)
@@ -149,7 +139,7 @@ module _ (s : State) (n : ℕ) (low : n < s.next) (none : entry_at s.entries n �
           ∙ ap (λ (b : Bool). b && not (is_passed_over s event n)) (and-false (is_item (apply s event) n))
       by_touch false is =
           ap (λ (b : Bool). b && not (touches s event n) && not (is_passed_over s event n))
-          (sym (owed-item s event n (event-owes s event h ok n is)) ∙ no-item s n none)
+          (sym (owed-item s event n (event-owes s event h ok n is)) ∙ none-item s n none)
 
 -- what an event touches that may touch any item is among the numbers around it
 pub touched-around : (s : State) (event : Event) → IsValid s → reach_of s event ≡ Any → filter (touches s event) (numbers_around s (apply s event)) ≡ touched s event

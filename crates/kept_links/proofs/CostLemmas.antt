@@ -19,7 +19,7 @@ use Rattle.hac_model.specs.declared.events.Event.{Event}
 use Rattle.hac_model.specs.declared.events.Event.TheVariants.{Mkdir, NewFile, Rewrite, Ln, Smkdir, Setq, Unq, Mark, Mv, Rm, Rmdir, Smount, Ssync, Sumount, Step, Cd}
 use Rattle.hac_model.specs.declared.states.Entry.{Entry}
 use Rattle.hac_model.specs.declared.states.State.{State}
-use Rattle.hac_model.proofs.AcyclicLemmas.{apply-valid}
+use Rattle.hac_model.proofs.AcyclicLemmas.{apply-valid, edge-directory}
 use Rattle.hac_model.proofs.ChangeLemmas.{entry_at-gone}
 use Rattle.hac_model.proofs.TreeLemmas.{entry_at-low}
 use Rattle.hac_model.proofs.ValidLemmas.{accepted-parts, rmdir-parts}
@@ -29,7 +29,6 @@ use Rattle.reeval.specs.Routes.{dirs_of}
 use Rattle.reeval.specs.Settled.{IsPlanned}
 use Rattle.reeval.specs.declared.planning.Task.{Task}
 use Rattle.reeval.specs.declared.settling.Stop.{Stop}
-use Rattle.reeval.proofs.LeaveLemmas.{edge-directory}
 use Rattle.reeval.proofs.WeightLemmas.{along-most, ordered-once}
 use Rattle.reindex.specs.Ways.{IsWayOf, stops_from, with_first}
 use Rattle.reindex.specs.declared.ways.Way.{Way}

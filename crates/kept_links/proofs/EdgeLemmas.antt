@@ -22,12 +22,11 @@ use Rattle.hac_model.specs.declared.states.Body.TheVariants.{File, Dir, Symlink,
 use Rattle.hac_model.specs.declared.states.Entry.{Entry}
 use Rattle.hac_model.specs.declared.states.State.{State}
 use Rattle.hac_model.proofs.AskLemmas.{item-no_directory}
-use Rattle.hac_model.proofs.FactLemmas.{edges-told, facts-law}
+use Rattle.hac_model.proofs.FactLemmas.{edges-told, facts-law, permanent-fact}
 use Rattle.hac_model.proofs.TreeLemmas.{entry_at-next}
 use Rattle.hac_model.proofs.LayoutLemmas.{ssync-parts, sumount-parts}
 use Rattle.hac_model.proofs.ValidLemmas.{accepted-parts}
 use Rattle.reeval.proofs.AskOwes.{marked-lenders}
-use Rattle.reeval.proofs.EventLemmas.{permanent-told}
 use Rattle.reindex.proofs.WayLemmas.{plain-lends}
 use Rattle.kept_links.proofs.SemanticLemmas.{asks-still}
 
@@ -90,7 +89,7 @@ module _ (s : State) (h : IsValid s) where
   marked-edges : (mark : Mark) → is_item s mark.item ≡ true → (facts_of s mark.dir).edges ≡ (facts_with s (parent_of s mark.dir) (query_at s mark.dir) (with_mark mark.kind mark.item (facts_of s mark.dir).marks) (facts_of s mark.dir)).edges
   marked-edges mark is =
       sym (edges-told s mark.dir)
-      ∙ ap (λ (ks : List ℕ). option_map_or (λ (asked : Formula ℕ). parent_of s mark.dir ∷ named_in asked ++ filter (is_directory_at s.entries) ks) (query_at s mark.dir) []) (permanent-told s mark.dir)
+      ∙ ap (λ (ks : List ℕ). option_map_or (λ (asked : Formula ℕ). parent_of s mark.dir ∷ named_in asked ++ filter (is_directory_at s.entries) ks) (query_at s mark.dir) []) (permanent-fact s mark.dir)
       ∙ ap (λ (linked : List ℕ). option_map_or (λ (asked : Formula ℕ). parent_of s mark.dir ∷ named_in asked ++ linked) (query_at s mark.dir) []) (marked-lenders (is_directory_at s.entries) mark.item (plain (is_directory_at s.entries mark.item) refl) mark.kind (facts_of s mark.dir).marks)
     where
       plain : (b : Bool) → is_directory_at s.entries mark.item ≡ b → is_directory_at s.entries mark.item ≡ false

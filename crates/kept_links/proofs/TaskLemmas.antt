@@ -33,7 +33,6 @@ use Rattle.reeval.specs.declared.settling.Stop.{Stop}
 use Rattle.reeval.specs.declared.verdicts.Change.{Change}
 use Rattle.reeval.proofs.EventsLeave.{event-owes, events-leave}
 use Rattle.reeval.proofs.PlanLemmas.{begins-more, no-item, unmoved, unjudged-said}
-use Rattle.reeval.proofs.SettleLemmas.{has-among}
 use Rattle.kept_links.specs.Items.{is_passed_over, others}
 use Rattle.kept_links.specs.Kept.{is_still}
 use Rattle.kept_links.specs.Tasks.{AreAlong, IsTaskOf, IsWayFrom, begins_touched, is_tie}
@@ -52,6 +51,7 @@ use Rattle.reindex.proofs.SettledLemmas.{leads-if}
 use Rattle.reindex.proofs.ProbeLemmas.{along-needed}
 use Rattle.reindex.proofs.NeededLemmas.{covers-needed, needed-everywhere}
 use Rattle.reindex.proofs.WayLemmas.{begun-way, covers-at, covers-everywhere, covers-from, depends-semantic, leans-well, lends-none, semantic-depends, way-over}
+use Rattle.hac_model.proofs.AmongLemmas.{has-among}
 
 -- an order over the same edges
 ordered-same : (edges other : ℕ → List ℕ) → ((n : ℕ) → edges n ≡ other n) → (ns : List ℕ) → IsOrdered edges ns → IsOrdered other ns

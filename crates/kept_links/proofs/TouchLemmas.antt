@@ -4,8 +4,6 @@ use Rattle.std.specs.Prelude.{◌==◌, ◌&&◌, ◌||◌, not, Option, Some, N
 use Rattle.std.specs.List.{range_with_len}
 use Rattle.std.specs.Option.{option_map, option_map_or}
 use Rattle.std.proofs.lemmas.Bool.{and_parts, eqb-true}
-use Rattle.std.specs.Ordering.{is_le, nat_cmp}
-use Rattle.std.proofs.lemmas.Bool.Decides.{nat_tests}
 use Rattle.hac_model.specs.Tree.Events.{accepted, apply, is_clear, is_free, is_inside, is_placed, is_possible, next_dirty}
 use Rattle.hac_model.specs.Tree.Limits.{passed_limit}
 use Rattle.hac_model.specs.Tree.Links.{is_item}
@@ -22,13 +20,6 @@ use Rattle.kept_links.specs.Items.{reach_of}
 use Rattle.kept_links.specs.declared.items.Reach.{Reach}
 use Rattle.kept_links.specs.declared.items.Reach.TheVariants.{Nothing, One, Any}
 use Rattle.kept_links.proofs.ItemLemmas.{filter_nowhere, filter_one, filter_past}
-
--- comparisons
-pub le-told : (a b : ℕ) → is_le (nat_cmp a b) ≡ true → a ≤ b
-le-told a b h = grind (arith, nat_tests)
-
-pub not-le-told : (a b : ℕ) → is_le (nat_cmp a b) ≡ false → b < a
-not-le-told a b h = grind (arith, nat_tests)
 
 -- what is of an item is there
 pub item-there : (s : State) (item : ℕ) → is_item s item ≡ true → (e : Entry) × (entry_at s.entries item ≡ Some e)

@@ -21,7 +21,7 @@ use Rattle.hac_model.specs.declared.states.Answer.{Answer}
 use Rattle.hac_model.specs.declared.states.State.{State}
 use Rattle.hac_model.specs.declared.terms.Term.{Term}
 use Rattle.hac_model.proofs.AcyclicLemmas.{apply-valid}
-use Rattle.hac_model.proofs.FactLemmas.{edges-told, facts-law}
+use Rattle.hac_model.proofs.FactLemmas.{answers-fact, edges-told, facts-law}
 use Rattle.hac_model.proofs.NextLemmas.{next-own, next-state}
 use Rattle.dep_graph.specs.Graphs as graph
 use Rattle.dep_graph.specs.Graphs.{edges_of, edges_with, replaced}
@@ -37,7 +37,7 @@ use Rattle.kept_state.specs.declared.kept.KeptState.TheInside.{Inside}
 use Rattle.kept_state.specs.declared.parts.Parts.{Parts}
 use Rattle.kept_state.specs.declared.ready.Ready.{Ready}
 use Rattle.kept_state.specs.declared.ready.Ready.TheVariants.{Nothing, Change, Session, Steps}
-use Rattle.kept_state.proofs.AnswerLemmas.{answers-fact, valid-order}
+use Rattle.kept_state.proofs.AnswerLemmas.{valid-order}
 use Rattle.kept_state.proofs.AskedLemmas.{event-asks, stepped-asks}
 use Rattle.kept_state.proofs.LenderLemmas.{will-stay}
 use Rattle.kept_state.proofs.MarkedLemmas.{event-mark, kept-mark, mark-fact, mark_in}

@@ -3,10 +3,10 @@ use Rattle.std.proofs.Common.{◌≡◌, ℕ, true, false, List, [], ◌∷◌, 
 use Rattle.std.specs.Prelude.{◌==◌, if◌then◌else◌, Option, Some, None, is_some, option_and_then}
 use Rattle.std.specs.List.{AllByRecursion}
 use Rattle.std.specs.Option.{option_map, option_map_or}
-use Rattle.hac_model.specs.Tree.Facts.{Facts, facts_at, facts_of}
+use Rattle.hac_model.specs.Tree.Facts.{Facts}
 use Rattle.hac_model.specs.Tree.Links.{answers_at, is_semantic}
 use Rattle.hac_model.specs.Tree.Valid.{IsAnswer, IsValid, KeepsWell, RiseFrom}
-use Rattle.hac_model.specs.Tree.{answers_in, body_at, entry_at, is_directory_at, is_mount, is_mount_at, query_in}
+use Rattle.hac_model.specs.Tree.{answers_in, body_at, entry_at, is_mount, is_mount_at, query_in}
 use Rattle.hac_model.specs.declared.states.Answer.{Answer}
 use Rattle.hac_model.specs.declared.states.Body.{Body}
 use Rattle.hac_model.specs.declared.states.Body.TheVariants.{File, Dir, Symlink, Semantic, Mount, Document}
@@ -15,11 +15,9 @@ use Rattle.hac_model.specs.declared.states.State.{State}
 use Rattle.kept_facts.specs.Answers.{AreInOrder, answers_kept}
 use Rattle.kept_state.specs.Parts.{IsLinked, state_of}
 use Rattle.kept_state.specs.declared.parts.Parts.{Parts}
+use Rattle.hac_model.proofs.FactLemmas.{answers-fact}
 
 -- The answers of a number are in its facts.
-
-pub answers-fact : (s : State) (n : ℕ) → answers_at s n ≡ (facts_of s n).answers
-answers-fact s n = elim (entry_at s.entries n) as (λ (o : Option Entry). option_map_or answers_in (option_map (λ (e : Entry). e.body) o) [] ≡ (facts_at (is_directory_at s.entries) o).answers) [ None ↦ refl | Some e ↦ refl ]
 
 pub kept-answers : (kept : Parts) → IsLinked kept → (n : ℕ) → answers_kept kept.answers n ≡ answers_at (state_of kept) n
 kept-answers kept h n = sym (answers-fact (state_of kept) n ∙ ap (λ (facts : Facts). facts.answers) (h.own n))

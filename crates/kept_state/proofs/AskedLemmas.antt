@@ -2,7 +2,7 @@
 use Rattle.std.proofs.Common.{◌≡◌, ℕ, ◌+◌, Bool, true, false, cond, List, [], ◌∷◌, ◌++◌, refl, ap, sym, ◌∙◌}
 use Rattle.std.specs.Prelude.{◌==◌, ◌&&◌, not, Option, Some, None, IsTrue, option_and_then}
 use Rattle.std.specs.Option.{option_map, option_map_or}
-use Rattle.std.proofs.lemmas.Bool.{and_parts, eqb-false, eqb-true}
+use Rattle.std.proofs.lemmas.Bool.{and_parts, eqb-false, eqb-true, or_right}
 use Rattle.hac_model.specs.Query.Formula.{Formula}
 use Rattle.hac_model.specs.Tree.Events.{accepted, added, apply, asking, changed_at, edited, indexed, next_dirty, plain_body, reseated, rewritten}
 use Rattle.hac_model.specs.Tree.Facts.{bare_after, put_at}
@@ -16,7 +16,6 @@ use Rattle.hac_model.specs.declared.states.Body.{Body}
 use Rattle.hac_model.specs.declared.states.Body.TheVariants.{File, Dir, Symlink, Semantic, Mount, Document}
 use Rattle.hac_model.specs.declared.states.Entry.{Entry}
 use Rattle.hac_model.specs.declared.states.State.{State}
-use Rattle.hac_model.proofs.ChangeLemmas.{or-right}
 use Rattle.hac_model.proofs.FillLemmas.{tree-law}
 use Rattle.hac_model.proofs.MountAskLemmas.{entry_at-filter, of_mount-directory}
 use Rattle.hac_model.proofs.ValidLemmas.{setq-parts}
@@ -27,6 +26,7 @@ use Rattle.kept_state.specs.declared.parts.Parts.{Parts}
 use Rattle.kept_state.proofs.MountPutLemmas.{gone-mount}
 use Rattle.kept_state.proofs.ReadyLemmas.{possible-of}
 use Rattle.kept_state.proofs.StateLemmas.{kept-bares, same-leaf, same-made, same-mount, same-next-bare, same-query, tree-layout}
+use Rattle.hac_model.proofs.AskLemmas.{mount-asks, rewritten-query}
 
 -- the query of what was found
 abbrev asked : Option Entry → Option (Formula ℕ)
@@ -37,10 +37,6 @@ abbrev tested : (Body → Bool) → Option Entry → Bool
 tested test found = option_map_or test (option_map (λ (x : Entry). x.body) found) false
 
 -- What bodies ask.
-
-rewritten-asks : (text : List ℕ) (body : Body) → query_in (rewritten text body) ≡ query_in body
-rewritten-asks text (File old dirty shown) = refl
-rewritten-asks text other = refl
 
 indexed-asks : (body : Body) → query_in (indexed body) ≡ query_in body
 indexed-asks (File text dirty shown) = refl
@@ -123,14 +119,6 @@ gone-asks mount names e gone = body e.body (and_parts (is_document e.body) (e.pa
     body (Mount space answers) document = refl
     body (Semantic query permanent prohibited) document = absurd cc
 
-mount-asks : (b : Body) → is_mount b ≡ true → query_in b ≡ None
-mount-asks (Mount space answers) mount = refl
-mount-asks Document mount = refl
-mount-asks (File text dirty shown) mount = refl
-mount-asks Dir mount = refl
-mount-asks (Symlink target) mount = refl
-mount-asks (Semantic query permanent prohibited) mount = absurd cc
-
 directory-asks : (b : Body) → is_directory b ≡ false → query_in b ≡ None
 directory-asks (Semantic query permanent prohibited) none = absurd cc
 directory-asks (File text dirty shown) none = refl
@@ -169,7 +157,7 @@ module _ (t : State) (layout : IsLayout t) (n : ℕ) where
       at e found gone true kind = own (n == mount) refl
         where
           directory : is_directory_at t.entries n ≡ true
-          directory = or-right (n == 0) (is_made_directory t.entries n) (ap (tested is_directory) found ∙ kind)
+          directory = or_right (n == 0) (is_made_directory t.entries n) (ap (tested is_directory) found ∙ kind)
 
           own : (b : Bool) → (n == mount) ≡ b → query_in e.body ≡ None
           own true here = mount-asks e.body (sym (ap (tested is_mount) found) ∙ ap (is_mount_at t.entries) (eqb-true n mount here) ∙ there)
@@ -207,7 +195,7 @@ module _ (kept : Parts) (h : IsLinked kept) (n : ℕ) where
       seen-removed asked t.entries entry n
       ∙ put-same (query_at t) entry None n (leaf-asks (entry_at t.entries entry) (sym (same-leaf s t (kept-bares kept) entry) ∙ possible-of s (Rm entry) ok))
   tree-asks (Rmdir dir) ok = seen-removed asked t.entries dir n
-  tree-asks (Rewrite file text) ok = same-changed t layout n file (rewritten text) (rewritten-asks text)
+  tree-asks (Rewrite file text) ok = same-changed t layout n file (rewritten text) (rewritten-query text)
   tree-asks Step ok = stepped-asks t n
   tree-asks (Cd session dir) ok = refl
   tree-asks (Smount dir name space documents told) ok =

@@ -3,7 +3,7 @@ use Rattle.std.proofs.Common.{◌≡◌, ℕ, Bool, true, false, cond, List, [],
 use Rattle.std.specs.Prelude.{◌==◌, ◌&&◌, ◌||◌, not, filter, map, Option, Some, None, IsTrue}
 use Rattle.std.specs.List.{AllByRecursion}
 use Rattle.std.specs.Option.{option_map, option_map_or}
-use Rattle.std.proofs.lemmas.Bool.{and_parts, cases_eq, eq-eqb, eqb-true, ne_eqb}
+use Rattle.std.proofs.lemmas.Bool.{and_parts, cases_eq, eq-eqb, eqb-true, ne_eqb, or_right}
 use Rattle.std.proofs.Math.Bool.{and-false}
 use Rattle.hac_model.specs.Tree.Changes.{without}
 use Rattle.hac_model.specs.Tree.Links.{has}
@@ -17,10 +17,11 @@ use Rattle.hac_model.proofs.TreeLemmas.{entry_at-all, entry_at-low, entry_at-num
 use Rattle.set_pool.specs.Rising as items
 use Rattle.link_kinds.specs.Kinds.{Lists, without_item}
 use Rattle.link_kinds.specs.Seen.{DropsItem, Known, SameLinks, lists_in}
-use Rattle.link_kinds.proofs.HasLemmas.{eqb-turned}
 use Rattle.link_kinds.proofs.PutLemmas.{removed-without}
 use Rattle.file_tree.proofs.OrderLemmas.{children-found}
 use Rattle.kept_state.specs.Forgetting.{ForgetsSuch, lists_without}
+use Rattle.hac_model.proofs.AmongLemmas.{eqb-turned}
+use Rattle.hac_model.proofs.ChangeLemmas.{or-turned}
 
 -- Numbers are left out.
 
@@ -101,11 +102,6 @@ forgetting-ends s dir test old new h d =
 abbrev numbers_of : List Entry → List ℕ
 numbers_of es = map (λ (e : Entry). e.number) es
 
-or-turned : (a b c : Bool) → (a || (b || c)) ≡ (b || (a || c))
-or-turned true true c = refl
-or-turned true false c = refl
-or-turned false b c = refl
-
 has-put : (e : Entry) (es : List Entry) (m : ℕ) → has (numbers_of (put_in_order e es)) m ≡ ((e.number == m) || has (numbers_of es) m)
 has-put e [] m = refl
 has-put e (f ∷ es) m =
@@ -185,10 +181,6 @@ module _ (s : State) (layout : IsLayout s) (dir : ℕ) where
 
 -- What goes with a mount, or from it.
 
-or-right : (a b : Bool) → b ≡ true → (a || b) ≡ true
-or-right true b h = refl
-or-right false b h = h
-
 module _ (s : State) (mount : ℕ) where
   pub of_mount-within : (m : ℕ) → is_such_at (is_of_mount mount) s.entries m ≡ true → ((mount == m) || is_in s mount m) ≡ true
   of_mount-within m h = at (entry_at s.entries m) refl h
@@ -209,7 +201,7 @@ module _ (s : State) (mount : ℕ) where
   pub of_mount-in : (m : ℕ) → is_in s mount m ≡ true → is_such_at (is_of_mount mount) s.entries m ≡ true
   of_mount-in m h = elim (entry_at s.entries m) as (λ (o : Option Entry). option_map_or (λ e. e.parent == mount) o false ≡ true → option_map_or (is_of_mount mount) o false ≡ true) [
     | None ↦ (λ h. absurd cc)
-    | Some e ↦ (λ h. or-right (e.number == mount) (e.parent == mount) h)
+    | Some e ↦ (λ h. or_right (e.number == mount) (e.parent == mount) h)
   ] h
 
   module _ (names : List (List ℕ)) where

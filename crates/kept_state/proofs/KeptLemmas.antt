@@ -1,25 +1,24 @@
 -- The tree, the marks, the answers and the graph go on to be those of one valid state.
 use Rattle.std.proofs.Common.{◌≡◌, ℕ, Bool, true, false, cond, List, [], ◌∷◌, ◌++◌, subst, refl, ap, sym, ◌∙◌}
 use Rattle.std.specs.Prelude.{◌==◌, ◌||◌, Option, Some, None, filter, is_some, IsTrue}
-use Rattle.std.specs.Option.{option_map, option_map_or}
+use Rattle.std.specs.Option.{option_map_or}
 use Rattle.std.proofs.lemmas.Bool.{eqb-true}
 use Rattle.hac_model.specs.Laws.{AllHappen}
 use Rattle.hac_model.specs.Tree.Depends.{depends, named_in}
 use Rattle.hac_model.specs.Tree.Events.{accepted, apply}
-use Rattle.hac_model.specs.Tree.Facts.{Facts, Marks, bare_after, edges_to, facts_after, facts_at, facts_of, joined}
+use Rattle.hac_model.specs.Tree.Facts.{Facts, Marks, bare_after, edges_to, facts_after, facts_of, joined}
 use Rattle.hac_model.specs.Query.Formula.{Formula}
 use Rattle.hac_model.specs.Tree.Limits.{counts}
 use Rattle.hac_model.specs.Tree as tree
-use Rattle.hac_model.specs.Tree.{entry_at, is_directory_at}
+use Rattle.hac_model.specs.Tree.{is_directory_at}
 use Rattle.hac_model.specs.Tree.Links.{is_semantic, lenders, parent_of, permanent_at, query_at}
 use Rattle.hac_model.specs.Tree.Sessions.{is_stored, sessions_after}
 use Rattle.hac_model.specs.Tree.Valid.{IsLayout, IsValid}
 use Rattle.hac_model.specs.declared.counts.Counts.{Counts}
 use Rattle.hac_model.specs.declared.events.Event.{Event}
-use Rattle.hac_model.specs.declared.states.Entry.{Entry}
 use Rattle.hac_model.specs.declared.states.State.{State}
 use Rattle.hac_model.proofs.AcyclicLemmas.{apply-valid}
-use Rattle.hac_model.proofs.FactLemmas.{edges-told}
+use Rattle.hac_model.proofs.FactLemmas.{edges-told, permanent-fact}
 use Rattle.hac_model.proofs.FillLemmas.{tree-law, tree-sessions}
 use Rattle.hac_model.proofs.NextLemmas.{next-layout, next-own, next-state}
 use Rattle.dep_graph.specs.Graphs.{edges_of}
@@ -36,9 +35,6 @@ use Rattle.kept_state.specs.declared.ready.Ready.TheVariants.{Change}
 use Rattle.kept_state.proofs.StateLemmas.{kept-bares, same-counts, same-directory, same-next-bare, same-parent, same-query, same-semantic}
 
 -- The marks of a state are in its facts.
-
-pub permanent-fact : (s : State) (n : ℕ) → permanent_at s n ≡ (facts_of s n).marks.permanent
-permanent-fact s n = elim (entry_at s.entries n) as (λ (o : Option Entry). option_map_or tree.permanent_in (option_map (λ (e : Entry). e.body) o) [] ≡ (facts_at (is_directory_at s.entries) o).marks.permanent) [ None ↦ refl | Some e ↦ refl ]
 
 -- lists of these marks, in which no link was found and nothing is lent
 abbrev pub unfound : Marks → Lists

@@ -6,15 +6,12 @@ use Rattle.hac_model.specs.Tree.Links.{is_semantic}
 use Rattle.hac_model.specs.Tree.Valid.{IsValid}
 use Rattle.hac_model.specs.declared.states.Session.{Session}
 use Rattle.hac_model.specs.declared.states.State.{State}
-use Rattle.hac_model.proofs.FactLemmas.{edges-told}
+use Rattle.hac_model.proofs.FactLemmas.{answers-fact, edges-told, permanent-fact, prohibited-fact}
 use Rattle.hac_model.proofs.FillLemmas.{rejoined}
 use Rattle.kept_facts.specs.Answers.{answers_kept}
 use Rattle.kept_state.specs.Parts.{IsLinked, facts_kept, state_of}
 use Rattle.kept_state.specs.Readers.{ArePartsOf}
 use Rattle.kept_state.specs.declared.parts.Parts.{Parts}
-use Rattle.kept_state.proofs.AnswerLemmas.{answers-fact}
-use Rattle.kept_state.proofs.KeptLemmas.{permanent-fact}
-use Rattle.kept_state.proofs.ReaderLemmas.{prohibited-fact}
 
 module _ (kept : Parts) (s : State) (h : ArePartsOf s kept.tree.state kept.marks (answers_kept kept.answers) kept.graph) (none : kept.sessions ≡ []) where
   -- what is kept of each number is what the state tells

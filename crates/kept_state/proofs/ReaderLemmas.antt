@@ -1,13 +1,9 @@
 -- What the parts of a kept state tell of it.
-use Rattle.std.proofs.Common.{◌≡◌, ℕ, false, cond, List, [], refl, ap, sym, ◌∙◌}
-use Rattle.std.specs.Prelude.{Option, Some, None}
-use Rattle.std.specs.Option.{option_map, option_map_or}
-use Rattle.hac_model.specs.Tree.Facts.{Facts, facts_at, facts_of}
-use Rattle.hac_model.specs.Tree.Links.{has, is_permanent, is_prohibited, prohibited_at}
+use Rattle.std.proofs.Common.{◌≡◌, ℕ, false, cond, List, ap, sym, ◌∙◌}
+use Rattle.hac_model.specs.Tree.Facts.{Facts}
+use Rattle.hac_model.specs.Tree.Links.{has, is_permanent, is_prohibited}
 use Rattle.hac_model.specs.Tree as tree
-use Rattle.hac_model.specs.Tree.{entry_at, is_directory_at}
 use Rattle.hac_model.specs.declared.marks.Kind.TheVariants.{Transient, Permanent, Prohibited, Unlinked}
-use Rattle.hac_model.specs.declared.states.Entry.{Entry}
 use Rattle.hac_model.specs.declared.states.State.{State}
 use Rattle.hac_model.proofs.FillLemmas.{bare-joined}
 use Rattle.set_pool.specs.Rising.{is_among}
@@ -18,11 +14,9 @@ use Rattle.kept_state.specs.Readers.{AreMarksOf, IsTreeOf, mark_at}
 use Rattle.kept_state.specs.declared.parts.Parts.{Parts}
 use Rattle.kept_state.proofs.KeptLemmas.{kept-permanent}
 use Rattle.kept_state.proofs.StateLemmas.{tree-layout}
+use Rattle.hac_model.proofs.FactLemmas.{prohibited-fact}
 
 -- so are the prohibited items of its directories
-
-pub prohibited-fact : (s : State) (n : ℕ) → prohibited_at s n ≡ (facts_of s n).marks.prohibited
-prohibited-fact s n = elim (entry_at s.entries n) as (λ (o : Option Entry). option_map_or tree.prohibited_in (option_map (λ (e : Entry). e.body) o) [] ≡ (facts_at (is_directory_at s.entries) o).marks.prohibited) [ None ↦ refl | Some e ↦ refl ]
 
 module _ (kept : Parts) (h : IsLinked kept) where
   pub tree-of : IsTreeOf (state_of kept) kept.tree.state

@@ -1,7 +1,7 @@
 -- What a linked tree says of its state: all but marks is in the tree alone.
 use Rattle.std.proofs.Common.{◌≡◌, ℕ, false, List, [], ◌∷◌, map, refl, ap, subst, sym, ◌∙◌}
 use Rattle.std.specs.Prelude.{◌&&◌, ◌||◌, not, Option, Some, None, is_some, option_and_then}
-use Rattle.std.specs.Option.{option_map, option_map_or}
+use Rattle.std.specs.Option.{option_map_or}
 use Rattle.hac_model.specs.Tree.Bare.{bare, bare_body}
 use Rattle.hac_model.specs.Tree.Events.{apply, can_have_mark, dirty, edited, is_empty_at, is_free, is_inside, is_made_holder, may_ask}
 use Rattle.hac_model.specs.Query.Formula.{Formula}
@@ -9,17 +9,16 @@ use Rattle.hac_model.specs.Tree.Limits.{counts}
 use Rattle.hac_model.specs.Tree.Mounts.{terms_to_ask}
 use Rattle.hac_model.specs.Tree.Links.{can_be_added, is_item, is_semantic, parent_of, query_at, shown_of}
 use Rattle.hac_model.specs.Run.Resolving.{resolved_for}
-use Rattle.hac_model.specs.Tree.{body_at, entry_at, is_directory, is_directory_at, is_document, is_document_at, is_file, is_file_at, is_leaf, is_leaf_at, is_linkable, is_made_directory, is_mount_at, is_symlink, is_symlink_at, path_of, shown_text, target_in}
+use Rattle.hac_model.specs.Tree.{body_at, entry_at, is_directory, is_directory_at, is_document_at, is_file, is_file_at, is_leaf, is_leaf_at, is_made_directory, is_mount_at, is_symlink, is_symlink_at, path_of, target_in}
 use Rattle.hac_model.specs.Tree.Valid.{IsLayout}
 use Rattle.hac_model.specs.declared.commands.Command.{Command}
 use Rattle.hac_model.specs.declared.events.Event.{Event}
 use Rattle.hac_model.specs.declared.marks.Kind.{Kind}
 use Rattle.hac_model.specs.declared.marks.Kind.TheVariants.{Transient, Permanent, Prohibited, Unlinked}
 use Rattle.hac_model.specs.declared.states.Body.{Body}
-use Rattle.hac_model.specs.declared.states.Body.TheVariants.{File, Dir, Symlink, Semantic, Mount, Document}
 use Rattle.hac_model.specs.declared.states.Entry.{Entry}
 use Rattle.hac_model.specs.declared.states.State.{State}
-use Rattle.hac_model.proofs.AlikeLemmas.{bare-kind, counts-bare, directory-bare, dirty-same, document-bare, entry_at-bare, file-bare, layout-bare, layout-unbare, is_bare-bare, is_free-bare, is_inside-bare, may_ask-bare, mount-bare, parent_of-bare, path_of-bare, query_at-bare, for-bare, some-bare, symlink-bare, target_at-bare}
+use Rattle.hac_model.proofs.AlikeLemmas.{bare-kind, counts-bare, directory-bare, dirty-same, document-bare, file-bare, for-bare, is_bare-bare, is_free-bare, is_inside-bare, item-told, layout-bare, layout-unbare, may_ask-bare, mount-bare, parent_of-bare, path_of-bare, query_at-bare, shown-bare, some-bare, symlink-bare, target_at-bare}
 use Rattle.hac_model.proofs.BareLemmas.{bare-commutes}
 use Rattle.hac_model.proofs.FillLemmas.{bare-joined}
 use Rattle.hac_model.proofs.MapLemmas.{test-mapped}
@@ -28,35 +27,11 @@ use Rattle.file_tree.specs.Answers.{numbers_of}
 use Rattle.kept_state.specs.Parts.{IsLinked, facts_kept, state_of}
 use Rattle.kept_state.specs.declared.parts.Parts.{Parts}
 
--- a text is shown of the same items, and there are the same ones
-shown-bare : (s : State) (n : ℕ) → shown_of (bare s) n ≡ shown_of s n
-shown-bare s n = ap (λ (o : Option Entry). option_and_then shown_text (option_map (λ (e : Entry). e.body) o)) (entry_at-bare s n) ∙ at (entry_at s.entries n)
-  where
-    at : (o : Option Entry) → option_and_then shown_text (option_map (λ (e : Entry). e.body) (option_map (edited bare_body) o)) ≡ option_and_then shown_text (option_map (λ (e : Entry). e.body) o)
-    at None = refl
-    at (Some e) = body e.body
-      where
-        body : (b : Body) → shown_text (bare_body b) ≡ shown_text b
-        body (File text dirty shown) = refl
-        body Dir = refl
-        body (Symlink target) = refl
-        body (Semantic query permanent prohibited) = refl
-        body (Mount space answers) = refl
-        body Document = refl
-
 -- a leaf is a file or a symbolic link
 pub leaf-told : (es : List Entry) (n : ℕ) → is_leaf_at es n ≡ (is_file_at es n || is_symlink_at es n)
 leaf-told es n = at (body_at es n)
   where
     at : (o : Option Body) → option_map_or is_leaf o false ≡ (option_map_or is_file o false || option_map_or is_symlink o false)
-    at None = refl
-    at (Some body) = refl
-
--- an item is a file or a document
-item-told : (s : State) (n : ℕ) → is_item s n ≡ (is_file_at s.entries n || is_document_at s.entries n)
-item-told s n = at (body_at s.entries n)
-  where
-    at : (o : Option Body) → option_map_or is_linkable o false ≡ (option_map_or is_file o false || option_map_or is_document o false)
     at None = refl
     at (Some body) = refl
 

@@ -1,21 +1,15 @@
 -- Limits, told by bounded counts.
-use Rattle.std.proofs.Common.{◌≡◌, ℕ, ◌+◌, Bool, false, List, refl, ap, sym, ◌∙◌, arith}
+use Rattle.std.proofs.Common.{◌≡◌, ℕ, Bool, false, List, refl, ap, sym, ◌∙◌, arith}
 use Rattle.std.specs.Prelude.{◌&&◌, nat_lt, is_none}
 use Rattle.std.proofs.lemmas.Bool.Decides.{nat_tests}
-use Rattle.hac_model.specs.Tree.{ancestors, lineage}
 use Rattle.hac_model.specs.Tree.Limits.{answer_limits, counts, first_passed, layout_limits, passed_limit, text_size}
 use Rattle.hac_model.specs.declared.counts.Counts.{Counts}
 use Rattle.hac_model.specs.declared.limits.Limit.{Limit}
-use Rattle.hac_model.specs.declared.limits.TheConstants.{PATH_LIMIT, TEXTS_LIMIT}
-use Rattle.hac_model.specs.declared.states.Entry.{Entry}
+use Rattle.hac_model.specs.declared.limits.TheConstants.{TEXTS_LIMIT}
 use Rattle.hac_model.specs.declared.states.State.{State}
 use Rattle.hac_model.specs.Tree.Valid.{IsLayout}
 use Rattle.hac_model.proofs.LimitLemmas.{limits-within, none-append}
 use Rattle.layout_check.specs.Bounded.{bounded}
-
-pub lineage-steps : (es : List Entry) (n : ℕ) → ancestors (PATH_LIMIT + 1) es n ≡ lineage es n
-unfolding lineage
-lineage-steps es n = refl
 
 -- none of the limits is exceeded
 abbrev pub are_kept : List Limit → Bool

@@ -26,7 +26,7 @@ pub rises : (above : ℕ) (es : List Entry) (below : ℕ) → NumbersRise above 
 rises above [] below h = tt
 rises above (e ∷ es) below h = (above-all e.number es below h.1, rises e.number es below h.1)
 
-tested : (above : ℕ) (es : List Entry) (below : ℕ) → do_numbers_rise above es below ≡ true → NumbersRise above es below
+pub tested : (above : ℕ) (es : List Entry) (below : ℕ) → do_numbers_rise above es below ≡ true → NumbersRise above es below
 tested above [] below h = ltb-true above below h
 tested above (e ∷ es) below h =
     let parts = and_parts (nat_lt above e.number) (do_numbers_rise e.number es below) h in

@@ -14,6 +14,7 @@ use Rattle.line_reader.specs.Reading.{Reading, IsReading, IsUnended, IsReaderOf,
 use Rattle.line_reader.specs.Pieces.{IsPastLimit}
 use Rattle.hac_model.proofs.JoinLemmas.{position-ended}
 use Rattle.hac_model.proofs.PrefixLemmas.{unended-take, position-none}
+use Rattle.std.proofs.KnownBytes.{Keeps-trans}
 
 -- how much there may be to read yet: a read takes a byte, or ends the source
 abbrev pub reads_left : Reading → ℕ
@@ -70,12 +71,6 @@ reads-piece old bytes count most before after unended kept read =
       stays = λ e. cc;
     }
 
-pub keeps_on : (a b c : Option (List ℕ)) → Keeps a b → Keeps b c → Keeps a c
-keeps_on None b c first second = search rules
-keeps_on (Some x) None c first second = absurd first
-keeps_on (Some x) (Some y) None first second = absurd second
-keeps_on (Some x) (Some y) (Some z) first second = second ∙ first
-
 pub total_on : (m n o : ℕ) (a b c : Option (List ℕ)) → SameTotal m a n b → SameTotal n b o c → SameTotal m a o c
 total_on m n o None b c first second = search rules
 total_on m n o (Some x) None c first second = absurd first
@@ -86,7 +81,7 @@ total_on m n o (Some x) (Some y) (Some z) first second = omega arith
 pub reads-on : (r s t : Reading) (a b c : SourceSeen) → ReadsOn r s a b → ReadsOn s t b c → ReadsOn r t a c
 reads-on r s t a b c first second =
     record {
-      pending = keeps_on (prepend_known r.buffered a.left) (prepend_known s.buffered b.left) (prepend_known t.buffered c.left) first.pending second.pending;
+      pending = Keeps-trans (prepend_known r.buffered a.left) (prepend_known s.buffered b.left) (prepend_known t.buffered c.left) first.pending second.pending;
       buffered = (first.buffered.0 ++ second.buffered.0, second.buffered.1 ∙ ap (λ (xs : List ℕ). xs ++ second.buffered.0) first.buffered.1 ∙ append_assoc r.buffered first.buffered.0 second.buffered.0);
       taken = omega (arith, first.taken, second.taken);
       given = second.given ∙ first.given;

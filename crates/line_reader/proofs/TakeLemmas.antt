@@ -2,7 +2,7 @@
 use Rattle.std.proofs.Common.{◌≡◌, ℕ, ◌+◌, ◌-◌, ◌<◌, ◌≤◌, Bool, true, false, List, [], ◌∷◌, ◌++◌, length, take, drop, refl, ap, sym, ◌∙◌, arith, rules, append_assoc, append-nil, length-append, length-drop, drop-drop, subst, inl, Option, Some, None}
 use Rattle.std.specs.Prelude.{◌⊎◌, nat_le, nat_lt, if◌then◌else◌, min, max, Result, Ok, Err, IfErr, OnErr}
 use Rattle.std.specs.List.{position_or_len}
-use Rattle.std.specs.Io.KnownBytes.{prepend_known, Keeps, Consumes, IsAtEnd}
+use Rattle.std.specs.Io.KnownBytes.{prepend_known, Consumes, IsAtEnd}
 use Rattle.std.proofs.Math.Seq.{take-append_seam, drop-append_seam, drop-nil}
 use Rattle.std.proofs.lemmas.Grind.{common_steps}
 use Rattle.std.proofs.lemmas.List.{length-take-le, take-append-drop}
@@ -18,6 +18,7 @@ use Rattle.line_reader.specs.Takes.{Takes, Misses, GivesPut, FallsShort, within}
 use Rattle.line_reader.specs.declared.reading.LineFault.{LineFault}
 use Rattle.line_reader.specs.declared.reading.LineFault.TheVariants as why
 use Rattle.line_reader.proofs.ReaderLemmas.{total_on}
+use Rattle.std.proofs.KnownBytes.{Consumes-kept, Consumes-nil, Keeps-refl}
 
 -- where scanning goes on, after this many bytes were given
 pub scanned-moved : (start scanned count : ℕ) (bytes : List ℕ) → start ≤ scanned → scanned ≤ start + position_or_len is_line_end (drop start bytes) → count ≤ length (drop start bytes) →
@@ -52,13 +53,7 @@ consumes-moved (Some x) (Some y) front buffered count h =
     h ∙ ap (λ (xs : List ℕ). front ++ (xs ++ y)) (sym (take-append-drop count buffered)) ∙ ap (λ (xs : List ℕ). front ++ xs) (append_assoc (take count buffered) (drop count buffered) y)
     ∙ sym (append_assoc front (take count buffered) (drop count buffered ++ y))
 
-consumes-kept : (all mid new : Option (List ℕ)) (front : List ℕ) → Consumes all mid front → Keeps mid new → Consumes all new front
-consumes-kept None mid new front h keeps = search rules
-consumes-kept (Some x) None new front h keeps = absurd h
-consumes-kept (Some x) (Some y) None front h keeps = absurd keeps
-consumes-kept (Some x) (Some y) (Some z) front h keeps = h ∙ ap (λ (xs : List ℕ). front ++ xs) (sym keeps)
-
-no_bytes : (bytes : List ℕ) → length bytes ≡ 0 → bytes ≡ []
+pub no_bytes : (bytes : List ℕ) → length bytes ≡ 0 → bytes ≡ []
 no_bytes [] none = refl
 no_bytes (byte ∷ bytes) none = absurd (omega arith)
 
@@ -79,14 +74,6 @@ came-short count bytes fewer =
 at-end : (buffered : List ℕ) (left : Option (List ℕ)) → buffered ≡ [] → IsAtEnd left → IsAtEnd (prepend_known buffered left)
 at-end buffered None none end = tt
 at-end buffered (Some l) none end = ap (λ (xs : List ℕ). xs ++ l) none ∙ end
-
-keeps-all : (all : Option (List ℕ)) → Keeps all all
-keeps-all None = search rules
-keeps-all (Some x) = refl
-
-kept-all : (all : Option (List ℕ)) → Consumes all all []
-kept-all None = search rules
-kept-all (Some x) = refl
 
 same-total : (taken : ℕ) (left : Option (List ℕ)) → SameTotal taken left taken left
 same-total taken None = tt
@@ -122,7 +109,7 @@ pub keeps-first : (asked : ℕ) (old : Reading) (before : SourceSeen) → IsRead
 keeps-first asked old before source =
     record {
       reads = record {
-        pending = keeps-all (prepend_known old.buffered before.left);
+        pending = Keeps-refl (prepend_known old.buffered before.left);
         buffered = ([], sym (append-nil old.buffered));
         taken = omega arith;
         given = refl;
@@ -150,7 +137,7 @@ pub drops-first : (asked : ℕ) (old : Reading) (before : SourceSeen) → IsRead
 drops-first asked old before source =
     record {
       gone = [];
-      bytes = kept-all (prepend_known old.buffered before.left);
+      bytes = Consumes-nil (prepend_known old.buffered before.left);
       counted = omega arith;
       given = omega arith;
       total = same-total old.taken before.left;
@@ -198,7 +185,7 @@ pub drops-filled : (asked due : ℕ) (old now new : Reading) (before mid after :
 drops-filled asked due old now new before mid after was more none reads near end =
     record {
       gone = was.gone;
-      bytes = consumes-kept (prepend_known old.buffered before.left) (prepend_known now.buffered mid.left) (prepend_known new.buffered after.left) was.gone was.bytes reads.pending;
+      bytes = Consumes-kept (prepend_known old.buffered before.left) (prepend_known now.buffered mid.left) (prepend_known new.buffered after.left) was.gone was.bytes reads.pending;
       counted = was.counted;
       given = reads.given ∙ was.given;
       total = total_on old.taken now.taken new.taken before.left mid.left after.left was.total reads.total;

@@ -1,18 +1,10 @@
 -- The lists of a directory, as hac_model reads lists.
-use Rattle.std.proofs.Common.{◌≡◌, ℕ, List, [], ◌∷◌, ◌||◌, refl, sym, ◌∙◌, inl, inr}
-use Rattle.std.specs.Prelude.{◌==◌}
-use Rattle.std.proofs.lemmas.Bool.{cases_eq, eq-eqb, ne_eqb}
+use Rattle.std.proofs.Common.{◌≡◌, ℕ, List, [], ◌∷◌, ◌||◌, refl, ◌∙◌}
 use Rattle.hac_model.specs.Tree.Links.{has}
 use Rattle.set_pool.specs.Rising.{is_among}
 use Rattle.hac_model.specs.Tree.Kinds.{is_permanent, is_transient}
 use Rattle.link_kinds.specs.Seen.{AllApart, Known, kind_at, permanent_in, transient_in}
-
-pub eqb-turned : (a b : ℕ) → (a == b) ≡ (b == a)
-eqb-turned a b =
-    elim (cases_eq a b) [
-      | inl same ↦ eq-eqb a b same ∙ sym (eq-eqb b a (sym same))
-      | inr differ ↦ ne_eqb a b differ ∙ sym (ne_eqb b a (λ same. differ (sym same)))
-    ]
+use Rattle.hac_model.proofs.AmongLemmas.{eqb-turned}
 
 pub has-among : (numbers : List ℕ) (number : ℕ) → has numbers number ≡ is_among number numbers
 has-among [] number = refl

@@ -8,8 +8,8 @@ use Rattle.std.proofs.lemmas.Bool.{cases_order, eq-eqb, le-ltb, lt-ltb, ne_eqb}
 use Rattle.std.proofs.lemmas.Map.Keys.{sorted_from_strictly_increasing}
 use Rattle.hac_model.specs.Tree.Events.{put_in, without}
 use Rattle.set_pool.specs.Rising.{AllAbove, Rises, inserted, removed}
-use Rattle.link_kinds.proofs.HasLemmas.{eqb-turned}
 use Rattle.set_pool.proofs.RisingLemmas.{all-weaker, inserted-before, inserted-past, inserted-present}
+use Rattle.hac_model.proofs.AmongLemmas.{eqb-turned}
 
 nat-less : (x y : ℕ) → nat_cmp x y ≡ Less → x < y
 nat-less x y e =

@@ -20,7 +20,8 @@ use Rattle.hac_model.specs.declared.terms.Term.{Term}
 use Rattle.hac_model.specs.declared.terms.Term.TheVariants.{Word, Prefix}
 use Rattle.query_index.specs.Asking.{is_listed}
 use Rattle.query_index.specs.Numbers.{any_below}
-use Rattle.query_index.proofs.ListLemmas.{agree, any-either, below-any, below-at, below-none, below-some, or-false, same-back}
+use Rattle.query_index.proofs.ListLemmas.{agree, any-either, below-any, below-at, below-none, below-some, or-false}
+use Rattle.hac_model.proofs.NameOrderLemmas.{same-turned}
 
 -- ---- one term
 
@@ -43,7 +44,7 @@ begins word letters = agree (any_below (suc (length word)) (λ k. bytes_eq (take
 
 -- a term asks for a word where it is the word, or one of its beginnings
 one-asked : (word : List ℕ) (term : Term) → (is_same_term (Word word) term || any_below (suc (length word)) (λ k. is_same_term (Prefix (take k word)) term)) ≡ is_asked term word
-one-asked word (Word letters) = ap (λ (b : Bool). bytes_eq word letters || b) (below-none (suc (length word))) ∙ or-false (bytes_eq word letters) ∙ same-back word letters
+one-asked word (Word letters) = ap (λ (b : Bool). bytes_eq word letters || b) (below-none (suc (length word))) ∙ or-false (bytes_eq word letters) ∙ same-turned word letters
 one-asked word (Prefix letters) = begins word letters
 
 -- and so do terms
@@ -57,7 +58,7 @@ some-asked word terms =
 -- ---- a word among others
 
 tied : (word other : List ℕ) (order : Ordering) → slice_cmp nat_cmp other word ≡ order → is_eq order ≡ false → bytes_eq word other ≡ false
-tied word other order is apart = same-back word other ∙ texts_ties other word ∙ ap is_eq is ∙ apart
+tied word other order is apart = same-turned word other ∙ texts_ties other word ∙ ap is_eq is ∙ apart
 
 falls : (words : List (List ℕ)) → IsStrictlySortedBy (slice_cmp nat_cmp) words → IsSortedBy (λ a b. is_lt (slice_cmp nat_cmp a b)) words
 falls words rise k d low inside =
@@ -66,7 +67,7 @@ falls words rise k d low inside =
 pub among : (words : List (List ℕ)) (word : List ℕ) (r : Result ℕ ℕ) → IsStrictlySortedBy (slice_cmp nat_cmp) words → IsSearchInRange r (length words) → IsBinarySearchResult (λ y. slice_cmp nat_cmp y word) words r →
     is_ok r ≡ is_listed words word
 among words word (Ok i) rise inside found =
-    sym (list_any_at (bytes_eq word) words i [] inside (same-back word (get_or words i []) ∙ texts_ties (get_or words i []) word ∙ ap is_eq (found [])))
+    sym (list_any_at (bytes_eq word) words i [] inside (same-turned word (get_or words i []) ∙ texts_ties (get_or words i []) word ∙ ap is_eq (found [])))
 among words word (Err i) rise inside found =
     let parts = found (searchable_from_sorted nat_list_cmp_total (λ w. w) words word (falls words rise)) in
     sym (or_from_places (list_any (bytes_eq word)) (bytes_eq word) refl (λ _ _. refl) words [] (λ k within. elim (cases_lt k i) [

@@ -19,9 +19,10 @@ use Rattle.query_index.specs.Numbers.{AddsAll, AreThose, any_below}
 use Rattle.query_index.specs.Seen.{ArePlaces, IsIndexOf, Seen, answer_of, asks_at, place_of, places_of}
 use Rattle.query_index.specs.declared.met.Met.{Met}
 use Rattle.query_index.proofs.AskLemmas.{begins, some-asked}
-use Rattle.query_index.proofs.ListLemmas.{and-false, and-true, any-either, any-filter, any-met, any-none, below-at, below-none, below-some, or-assoc, or-false, same-back}
+use Rattle.query_index.proofs.ListLemmas.{and-false, and-true, any-either, any-filter, any-met, any-none, below-at, below-none, below-some, or-assoc, or-false}
 use Rattle.query_index.proofs.NumberLemmas.{adds-alike, adds-both, adds-none, eqb-suc}
 use Rattle.query_index.proofs.PostingLemmas.{one-there, stands-as, stands-there}
+use Rattle.hac_model.proofs.NameOrderLemmas.{same-turned}
 
 abbrev Queries : Type 0
 Queries = List (Option (Formula ℕ))
@@ -180,7 +181,7 @@ beginning-told entries met words those letters = of (place_of entries letters) r
   where
     one : (at : ℕ) → place_of entries letters ≡ Some at → (word : List ℕ) → begins_at entries word at ≡ starts_with nat_eq word letters
     one at same word =
-        (λ i. any_below (suc (length word)) (λ len. (one-there entries letters (take len word) at same ∙ same-back letters (take len word)) i))
+        (λ i. any_below (suc (length word)) (λ len. (one-there entries letters (take len word) at same ∙ same-turned letters (take len word)) i))
         ∙ begins word letters
 
     of : (o : Option ℕ) → place_of entries letters ≡ o → IfSome (option_map (has met) o) (λ asked. asked ≡ list_any (is_asked (Prefix letters)) words)

@@ -2,9 +2,7 @@
 use Rattle.std.proofs.Common.{◌≡◌, ℕ, zero, suc, ◌<◌, Bool, true, false, cond, List, [], ◌∷◌, refl, ap, subst, sym, ◌∙◌, arith, inl, inr}
 use Rattle.std.specs.Prelude.{◌==◌, ◌&&◌, ◌||◌, filter}
 use Rattle.std.specs.List.{list_any}
-use Rattle.std.specs.Str.{bytes_eq}
 use Rattle.std.proofs.lemmas.Bool.{cases_eq, eq-eqb, eqb-true, or_cases, or_left, or_right}
-use Rattle.std.proofs.lemmas.Slice.Eq.{bytes_eq-Decides}
 use Rattle.hac_model.specs.Tree.Links.{has}
 use Rattle.query_index.specs.Numbers.{any_below}
 
@@ -34,12 +32,6 @@ or-pairs true b c d = refl
 or-pairs false true true d = refl
 or-pairs false true false d = refl
 or-pairs false false c d = refl
-
-pub same-back : (xs ys : List ℕ) → bytes_eq xs ys ≡ bytes_eq ys xs
-same-back xs ys = agree (bytes_eq xs ys) (bytes_eq ys xs) (turned xs ys) (turned ys xs)
-  where
-    turned : (xs ys : List ℕ) → bytes_eq xs ys ≡ true → bytes_eq ys xs ≡ true
-    turned xs ys same = (bytes_eq-Decides ys xs).1 (sym ((bytes_eq-Decides xs ys).0 same))
 
 -- Some element of a list.
 

@@ -1,9 +1,8 @@
 -- Numbers that are added to others, and numbers in order.
-use Rattle.std.proofs.Common.{◌≡◌, ℕ, suc, ◌+◌, ◌<◌, ◌≤◌, Bool, true, false, cond, List, [], ◌∷◌, eqb, refl, ap, subst, sym, ◌∙◌, arith}
-use Rattle.std.specs.Prelude.{◌==◌, ◌||◌, ◌++◌, IsPermutation, IsSorted, slice_index}
+use Rattle.std.proofs.Common.{◌≡◌, ℕ, suc, ◌+◌, Bool, true, false, cond, List, [], ◌∷◌, eqb, refl, ap, subst, sym, ◌∙◌, arith}
+use Rattle.std.specs.Prelude.{◌==◌, ◌||◌, ◌++◌, IsPermutation, IsSorted}
 use Rattle.std.specs.List.{dedup, dedup_from}
 use Rattle.std.specs.List.Retain.{DiffersFromLast, IsFiltered}
-use Rattle.std.specs.List.Sorted.{IsStrictlyIncreasing}
 use Rattle.std.specs.Ordering.{nat_cmp}
 use Rattle.std.proofs.lemmas.Bool.{eq-eqb, eqb-true}
 use Rattle.std.proofs.lemmas.List.Filters.{dedup_is}
@@ -14,6 +13,7 @@ use Rattle.hac_model.specs.Tree.Links.{has}
 use Rattle.hac_model.specs.Tree.Valid.{RiseFrom}
 use Rattle.query_index.specs.Numbers.{AddsAll}
 use Rattle.query_index.proofs.ListLemmas.{agree, or-assoc, or-false}
+use Rattle.hac_model.proofs.SortedLemmas.{steps-rise}
 
 pub eqb-suc : (a b : ℕ) → (suc a == suc b) ≡ (a == b)
 eqb-suc a b = agree (suc a == suc b) (a == b) (λ is. eq-eqb a b (omega (arith, eqb-true (suc a) (suc b) is))) (λ is. eq-eqb (suc a) (suc b) (omega (arith, eqb-true a b is)))
@@ -57,17 +57,6 @@ kept k (x ∷ ns) n = of (eqb x k) refl (kept k ns n) (kept x ns n)
 pub has-dedup : (ns : List ℕ) (n : ℕ) → has (dedup eqb ns) n ≡ has ns n
 has-dedup [] n = refl
 has-dedup (k ∷ ns) n = kept k ns n
-
--- each number is below the next
-pub steps-rise : (bound : ℕ) (ns : List ℕ) → ((n : ℕ) (more : List ℕ) → ns ≡ n ∷ more → bound ≤ n) → IsStrictlyIncreasing ns → RiseFrom bound ns
-steps-rise bound [] low h = tt
-steps-rise bound (n ∷ []) low h = (low n [] refl, tt)
-steps-rise bound (n ∷ m ∷ ns) low h = (
-  low n (m ∷ ns) refl,
-  steps-rise (n + 1) (m ∷ ns)
-      (λ k more is. let same : m ≡ k = cc in let less : n < m = h 0 (omega arith) in omega arith)
-      (λ k inside. subst (λ (j : ℕ). slice_index (m ∷ ns) k < slice_index (n ∷ m ∷ ns) j) {x = suc k + 1} {y = suc (k + 1)} (omega arith) (h (suc k) (omega arith))),
-)
 
 module _ (old sorted new : List ℕ) (same : IsPermutation old sorted) (order : IsSorted nat_cmp sorted) (left : IsFiltered (DiffersFromLast eqb) [] sorted new) where
   pub ordered-rise : RiseFrom 0 new

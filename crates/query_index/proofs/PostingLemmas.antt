@@ -6,7 +6,7 @@ use Rattle.std.specs.Map.{keys_of, lookup, set_value}
 use Rattle.std.specs.Option.{option_copied, option_map, option_map_or}
 use Rattle.std.specs.Str.{bytes_eq}
 use Rattle.std.specs.declared.alloc.Global.{Global}
-use Rattle.std.proofs.lemmas.Bool.{cases_lt, eq-eqb, eqb-true, false≢true, le-ltb, lt-ltb}
+use Rattle.std.proofs.lemmas.Bool.{cases_lt, eq-eqb, eqb-true, false≢true, le-ltb, lt-ltb, or_left}
 use Rattle.std.proofs.lemmas.List.Folds.{list_any-append}
 use Rattle.std.proofs.lemmas.List.Quantifiers.{position-Some}
 use Rattle.std.proofs.lemmas.Slice.Eq.{bytes_eq-Decides}
@@ -258,11 +258,6 @@ pass-more old new before after letters all still own more others there =
     of false was true is either = ap (passes new) (same others letters is) ∙ own
     of false was false is either = absurd (false≢true either)
 
--- letters that were there
-pub old-letters : (b c : Bool) → b ≡ true → (b || c) ≡ true
-old-letters true c is = refl
-old-letters false c is = absurd (false≢true is)
-
 -- only the letters that are put in are new
 pub new-letters : (letters others : List ℕ) (es : List (Letters × Letters)) (k v : Letters) → k.items ≡ letters → is_some (lookup (is_for others) (insert_entry same_key es k v)) ≡ true → (is_some (lookup (is_for others) es) || bytes_eq others letters) ≡ true
 new-letters letters others es k v key there = of (bytes_eq others k.items) refl (sym (ap is_some (inserted others es k v)) ∙ there)
@@ -275,7 +270,7 @@ new-letters letters others es k v key there = of (bytes_eq others k.items) refl 
     of true is there =
         ap (λ (c : Bool). is_some (lookup (is_for others) es) || c) (ap (bytes_eq others) (sym key) ∙ is)
         ∙ right (is_some (lookup (is_for others) es))
-    of false is there = old-letters (is_some (lookup (is_for others) es)) (bytes_eq others letters) there
+    of false is there = or_left (is_some (lookup (is_for others) es)) (bytes_eq others letters) there
 
 -- no letters come or go where places are written
 pub same-letters : (letters others : List ℕ) (es : List (Letters × Letters)) (w : Letters) → is_some (lookup (is_for others) (set_value (is_for letters) es w)) ≡ is_some (lookup (is_for others) es)

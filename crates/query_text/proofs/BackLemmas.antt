@@ -31,20 +31,20 @@ use Rattle.query_text.specs.declared.paths.NamedDir.{NamedDir}
 
 -- Paths.
 
-name_byte : (b : ℕ) → is_name_byte b ≡ true → is_control b ≡ false
+pub name_byte : (b : ℕ) → is_name_byte b ≡ true → is_control b ≡ false
 name_byte b h = grind (arith, nat_tests)
 
-name_bytes : (name rest : List ℕ) → list_all is_name_byte name ≡ true → AllPathBytes rest → AllPathBytes (name ++ rest)
+pub name_bytes : (name rest : List ℕ) → list_all is_name_byte name ≡ true → AllPathBytes rest → AllPathBytes (name ++ rest)
 name_bytes [] rest h all = all
 name_bytes (b ∷ name) rest h all = let p = and_parts (is_name_byte b) (list_all is_name_byte name) h in (name_byte b p.0, name_bytes name rest p.1 all)
 
-names_bytes : (names : List (List ℕ)) → are_names names ≡ true → AllPathBytes (flat_map slashed names)
+pub names_bytes : (names : List (List ℕ)) → are_names names ≡ true → AllPathBytes (flat_map slashed names)
 names_bytes [] h = tt
 names_bytes (name ∷ names) h =
     let p = and_parts (is_name name) (are_names names) h in
     (refl, name_bytes name (flat_map slashed names) (leads_down name p.0).part (names_bytes names p.1))
 
-text_path : (path : List (List ℕ)) → are_names path ≡ true → IsPath (path_text path)
+pub text_path : (path : List (List ℕ)) → are_names path ≡ true → IsPath (path_text path)
 text_path [] h = (refl, tt)
 text_path (name ∷ names) h = (refl, (names_bytes (name ∷ names) h).1)
 

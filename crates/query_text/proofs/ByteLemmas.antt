@@ -64,7 +64,7 @@ whole_run (b ∷ run) rest w (word, all) =
     ap (λ (k : ByteKind). option_and_then (reads (run ++ rest)) (operand_begins k b w)) (word_kind b word)
     ∙ run_reads (b ∷ []) run rest w all
 
-and_then_again : {A B C : Type 0} (f : B → Option C) (g : A → Option B) (o : Option A)
+pub and_then_again : {A B C : Type 0} (f : B → Option C) (g : A → Option B) (o : Option A)
     → option_and_then f (option_and_then g o) ≡ option_and_then (λ x. option_and_then f (g x)) o
 and_then_again f g None = refl
 and_then_again f g (Some x) = refl

@@ -15,7 +15,7 @@ use Rattle.hac_model.specs.declared.reading.Reader.{Reader}
 use Rattle.hac_model.specs.declared.reading.Reader.TheVariants.{Wants, Ends}
 use Rattle.hac_model.specs.declared.reading.Stack.TheVariants.{Wanting}
 use Rattle.hac_model.specs.declared.reading.Wanted.{Wanted}
-use Rattle.query_text.proofs.ByteLemmas.{reads, spelled_reads}
+use Rattle.query_text.proofs.ByteLemmas.{and_then_again, reads, spelled_reads}
 use Rattle.query_text.proofs.KindLemmas.{word_kind, space_kind, close_kind, star_kind, end_brace_kind, backslash_kind, slash_kind}
 use Rattle.query_text.proofs.ShowLemmas.{shown}
 use Rattle.query_text.proofs.TokenLemmas.{complete, sound}
@@ -123,11 +123,6 @@ leads (Ends operator.Or h) = spaced_sign (Ends operator.Or h) (after_or h) (λ k
 abbrev after : List ℕ → Reader → Option Reader
 after [] reader = Some reader
 after (b ∷ bytes) reader = option_and_then (after bytes) (step b reader)
-
-and_then_again : {A B C : Type 0} (f : B → Option C) (g : A → Option B) (o : Option A)
-    → option_and_then f (option_and_then g o) ≡ option_and_then (λ x. option_and_then f (g x)) o
-and_then_again f g None = refl
-and_then_again f g (Some x) = refl
 
 reads-after : (bytes more : List ℕ) (reader : Reader) → reads (bytes ++ more) reader ≡ option_and_then (reads more) (after bytes reader)
 reads-after [] more reader = refl

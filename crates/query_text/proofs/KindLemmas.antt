@@ -1,7 +1,7 @@
 -- What a byte is in a query, and what a byte of each kind makes of what was read.
 use Rattle.std.proofs.Common.{◌≡◌, ℕ, ◌≤◌, Bool, true, false, cond, List, [], ◌∷◌, ◌++◌, Some, refl, ap, sym, subst, arith, inl, inr, ◌⊎◌}
 use Rattle.std.specs.Prelude.{◌||◌, ◌==◌, ⊤}
-use Rattle.std.proofs.lemmas.Bool.{eqb-true}
+use Rattle.std.proofs.lemmas.Bool.{eqb-true, or_cases, or_from}
 use Rattle.std.proofs.lemmas.Bool.Decides.{nat_tests}
 use Rattle.hac_model.specs.Bytes.{is_space, is_slash, is_backslash}
 use Rattle.hac_model.specs.Query.Grammar.{is_control, escape}
@@ -31,9 +31,6 @@ picked : (P : ByteKind → Type 0) (t : Bool) (x y : ByteKind) → (t ≡ true �
 picked P true x y first second = first refl
 picked P false x y first second = second refl
 
-neither : (a b : Bool) → a ≡ false → b ≡ false → (a || b) ≡ false
-neither a b e f = cc
-
 pub kind_is : (b : ℕ) → IsKind (kind_of b) b
 unfolding kind_of
 kind_is b =
@@ -47,7 +44,7 @@ kind_is b =
     picked P (b == 125) _ _ (λ h. eqb-true b 125 h) (λ brace.
     picked P (is_backslash b) _ _ (λ h. eqb-true b 92 h) (λ back.
     picked P (is_slash b) _ _ (λ h. eqb-true b 47 h) (λ _.
-    picked P (is_control b) _ _ (λ h. (word, h, star)) (λ control. (word, control, star, neither (b == 125) (b == 92) brace back)))))))))))
+    picked P (is_control b) _ _ (λ h. (word, h, star)) (λ control. (word, control, star, or_from (b == 125) (b == 92) brace back)))))))))))
 
 pub word_kind : (b : ℕ) → is_word_byte b ≡ true → kind_of b ≡ Word
 unfolding kind_of
@@ -185,14 +182,10 @@ bare_step Brace b path w is control bare = refl
 bare_step Slash b path w is control bare = refl
 bare_step Foreign b path w is control bare = refl
 
-either_true : (x y : Bool) → (x || y) ≡ true → (x ≡ true) ⊎ (y ≡ true)
-either_true true y e = inl refl
-either_true false y e = inr e
-
 -- a byte is that of a directory's escapes, or it isn't
 pub escape_cases : (b : ℕ) → (((b ≡ 125) ⊎ (b ≡ 92)) × (escape b ≡ 92 ∷ b ∷ [])) ⊎ (((b == 125 || b == 92) ≡ false) × (escape b ≡ b ∷ []))
 escape_cases b = at (b == 125 || b == 92) refl
   where
     at : (t : Bool) → (b == 125 || b == 92) ≡ t → (((b ≡ 125) ⊎ (b ≡ 92)) × (escape b ≡ 92 ∷ b ∷ [])) ⊎ (((b == 125 || b == 92) ≡ false) × (escape b ≡ b ∷ []))
-    at true e = inl (elim (either_true (b == 125) (b == 92) e) [ inl h ↦ inl (eqb-true b 125 h) | inr h ↦ inr (eqb-true b 92 h) ], ap (λ (t : Bool). cond t (92 ∷ b ∷ []) (b ∷ [])) e)
+    at true e = inl (elim (or_cases (b == 125) (b == 92) e) [ inl h ↦ inl (eqb-true b 125 h) | inr h ↦ inr (eqb-true b 92 h) ], ap (λ (t : Bool). cond t (92 ∷ b ∷ []) (b ∷ [])) e)
     at false e = inr (e, ap (λ (t : Bool). cond t (92 ∷ b ∷ []) (b ∷ [])) e)

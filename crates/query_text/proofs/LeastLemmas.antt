@@ -30,14 +30,14 @@ opened-append (Or ∷ ts) us = opened-append ts us
 opened-append (Not ∷ ts) us = opened-append ts us
 opened-append (Of l ∷ ts) us = opened-append ts us
 
-or_joined : (q : Formula (List ℕ)) → pair (is_or q) ≤ pair (is_joined q)
+pub or_joined : (q : Formula (List ℕ)) → pair (is_or q) ≤ pair (is_joined q)
 or_joined (formula.Term asked) = omega arith
 or_joined (formula.Dir path) = omega arith
 or_joined (formula.Not q) = omega arith
 or_joined (formula.And l r) = omega arith
 or_joined (formula.Or l r) = omega arith
 
-pair_one : (b : Bool) → pair b ≤ 1
+pub pair_one : (b : Bool) → pair b ≤ 1
 pair_one true = omega arith
 pair_one false = omega arith
 

@@ -14,6 +14,7 @@ use Rattle.hac_model.proofs.AmongLemmas.{among-left, among-right}
 use Rattle.hac_model.proofs.KeepingLemmas.{all-parted}
 use Rattle.reeval.specs.Judging.{FindsAlike, JudgesAlike, LeavesAlike, judgement}
 use Rattle.reeval.specs.declared.verdicts.Verdict.{Verdict}
+use Rattle.hac_model.proofs.LinkLemmas.{any-agree, satisfied}
 
 -- What is semantic neither before nor after.
 
@@ -58,10 +59,6 @@ pub record SameInputs (s t : State) (item dir : ℕ) (asked : Formula ℕ) : Typ
   pub removed : is_prohibited s dir item ≡ is_prohibited t dir item
   pub atoms : AllByRecursion (λ term. atom s term item ≡ atom t term item) (terms_of asked)
 
-any-agree : (p q : ℕ → Bool) (xs : List ℕ) → ((x : ℕ) → Among xs x → p x ≡ q x) → list_any p xs ≡ list_any q xs
-any-agree p q [] same = refl
-any-agree p q (x ∷ xs) same = λ i. same x (inl refl) i || any-agree p q xs (λ y inside. same y (inr inside)) i
-
 module _ (s t : State) (item : ℕ) (a b : ℕ → Bool) where
   -- a query holds alike where its terms do and what its directories provide
   holds-across : (asked : Formula ℕ) → AllByRecursion (λ term. atom s term item ≡ atom t term item) (terms_of asked) → ((e : ℕ) → Among (named_in asked) e → provide s a e item ≡ provide t b e item) →
@@ -77,9 +74,6 @@ module _ (s t : State) (item : ℕ) (a b : ℕ → Bool) where
       let parts = all-parted (λ term. atom s term item ≡ atom t term item) (terms_of p) (terms_of q) atoms in
       λ i. holds-across p parts.0 (λ e edge. same e (among-left (named_in p) (named_in q) e edge)) i
       || holds-across q parts.1 (λ e edge. same e (among-right (named_in p) (named_in q) e edge)) i
-
-satisfied : (s : State) (a : ℕ → Bool) (dir item : ℕ) (asked : Formula ℕ) → query_at s dir ≡ Some asked → satisfies s a dir item ≡ holds s a asked item
-satisfied s a dir item asked at = ap (λ (o : Option (Formula ℕ)). option_map_or (λ (query : Formula ℕ). holds s a query item) o false) at
 
 -- the directories on which one with a query depends
 pub depends-asked : (s : State) (dir : ℕ) (asked : Formula ℕ) → query_at s dir ≡ Some asked → depends s dir ≡ parent_of s dir ∷ (named_in asked ++ lenders s dir)

@@ -13,7 +13,7 @@ use Rattle.reeval.specs.Settled.{HasRoom, verdict_in}
 use Rattle.reeval.specs.Told.{latest, news_on, told}
 use Rattle.reeval.specs.declared.verdicts.Change.{Change}
 use Rattle.reeval.specs.declared.verdicts.Verdict.{Verdict}
-use Rattle.reeval.proofs.ToldLemmas.{flipped}
+use Rattle.hac_model.proofs.AmongLemmas.{eqb-turned}
 
 -- who is among numbers, once one is put in or taken out
 placed : (item x : ℕ) (on : Bool) (xs : List ℕ) → is_among x (if on then inserted item xs else removed item xs) ≡ (if x == item then on else is_among x xs)
@@ -79,7 +79,7 @@ verdict-put old mid new dir item verdict first second x d =
 pub told-first : (x : ℕ) (first : Change) (rest : List Change) (before after : ℕ → Verdict) → ((d : ℕ) → after d ≡ (if d == first.dir && x == first.item then first.verdict else before d)) →
     (d : ℕ) → told (news_on x rest) after d ≡ told (news_on x (first ∷ rest)) before d
 told-first x first rest before after put d =
-    ap (latest (news_on x rest) d) (put d ∙ (λ i. if flipped d first.dir i && flipped x first.item i then first.verdict else before d))
+    ap (latest (news_on x rest) d) (put d ∙ (λ i. if eqb-turned d first.dir i && eqb-turned x first.item i then first.verdict else before d))
     ∙ (elim (first.item == x) as (λ b. latest (news_on x rest) d (if first.dir == d && b then first.verdict else before d) ≡ latest (if b then first ∷ news_on x rest else news_on x rest) d (before d)) [
       | true ↦ ap (λ (b : Bool). latest (news_on x rest) d (if b then first.verdict else before d)) (and-true (first.dir == d))
       | false ↦ ap (λ (b : Bool). latest (news_on x rest) d (if b then first.verdict else before d)) (and-false (first.dir == d))

@@ -25,12 +25,12 @@ use Rattle.hac_model.specs.declared.states.State.{State}
 use Rattle.hac_model.specs.declared.terms.Term.{Term}
 use Rattle.hac_model.proofs.AcyclicLemmas.{apply-valid}
 use Rattle.hac_model.proofs.AskLemmas.{item-no_directory}
-use Rattle.hac_model.proofs.FactLemmas.{edges-told}
+use Rattle.hac_model.proofs.FactLemmas.{edges-told, permanent-fact}
 use Rattle.hac_model.proofs.GainLemmas.{entry_at-gains, layout-told}
 use Rattle.hac_model.proofs.MarkLemmas.{has-put_in}
 use Rattle.hac_model.proofs.ValidLemmas.{accepted-parts, setq-parts}
 use Rattle.hac_model.proofs.ViewLemmas.{seen-added, seen-changed, seen-kept, seen-plain}
-use Rattle.reeval.proofs.EventLemmas.{FactsAlike, Owes, item_in, owed-below, permanent-told, query_of, same-facts}
+use Rattle.reeval.proofs.EventLemmas.{FactsAlike, Owes, item_in, owed-below, query_of, same-facts}
 use Rattle.reeval.proofs.OweLemmas.{AllStayIn, added-stay, all-parents, all-then, asking-item, edited-stay, gaining-item, gaining-query, marked-item, marked-query, mount-other, none-of, own-mount, put-other, told-kept}
 use Rattle.reeval.proofs.TreeOwes.{apart-mount, has-other}
 
@@ -107,7 +107,7 @@ module _ (s : State) (item : ℕ) (h : IsValid s) where
     marked-facts is = record {
       edges =
           sym (edges-told s mark.dir)
-          ∙ ap (λ (ks : List ℕ). option_map_or (λ (asked : Formula ℕ). parent_of s mark.dir ∷ named_in asked ++ filter (is_directory_at s.entries) ks) (query_at s mark.dir) []) (permanent-told s mark.dir)
+          ∙ ap (λ (ks : List ℕ). option_map_or (λ (asked : Formula ℕ). parent_of s mark.dir ∷ named_in asked ++ filter (is_directory_at s.entries) ks) (query_at s mark.dir) []) (permanent-fact s mark.dir)
           ∙ ap (λ (linked : List ℕ). option_map_or (λ (asked : Formula ℕ). parent_of s mark.dir ∷ named_in asked ++ linked) (query_at s mark.dir) []) (marked-lenders (is_directory_at s.entries) mark.item (plain (is_directory_at s.entries mark.item) refl) mark.kind (facts_of s mark.dir).marks);
       added = marked-added mark.item item other mark.kind (facts_of s mark.dir).marks;
       removed = marked-removed mark.item item other mark.kind (facts_of s mark.dir).marks;

@@ -4,13 +4,13 @@ use Rattle.std.specs.Prelude.{◌==◌, ◌&&◌, if◌then◌else◌, Option, S
 use Rattle.std.specs.Option.{option_map, option_map_or, unwrap_or}
 use Rattle.hac_model.specs.Query.Formula.{Formula}
 use Rattle.hac_model.specs.Tree.Events.{accepted, apply}
-use Rattle.hac_model.specs.Tree.Facts.{Facts, facts_after, facts_at, facts_of}
-use Rattle.hac_model.specs.Tree.Links.{answers_at, has, is_item, kept_at, parent_of, permanent_at, prohibited_at, query_at}
+use Rattle.hac_model.specs.Tree.Facts.{Facts, facts_after, facts_of}
+use Rattle.hac_model.specs.Tree.Links.{answers_at, has, is_item, kept_at, parent_of, query_at}
 use Rattle.hac_model.specs.Tree.Mounting.{is_document_of}
 use Rattle.hac_model.specs.Tree.Mounts.{is_kept, kept_for}
 use Rattle.hac_model.specs.Tree.Touched.{begins}
 use Rattle.hac_model.specs.Tree.Valid.{IsValid}
-use Rattle.hac_model.specs.Tree.{answers_in, entry_at, extends, is_directory_at, is_document, is_document_at, is_linkable, path_of, permanent_in, prohibited_in, query_in, shown_text}
+use Rattle.hac_model.specs.Tree.{entry_at, extends, is_directory_at, is_document, is_document_at, is_linkable, path_of, query_in, shown_text}
 use Rattle.hac_model.specs.declared.events.Event.{Event}
 use Rattle.hac_model.specs.declared.states.Answer.{Answer}
 use Rattle.hac_model.specs.declared.states.Body.{Body}
@@ -19,7 +19,7 @@ use Rattle.hac_model.specs.declared.states.Entry.{Entry}
 use Rattle.hac_model.specs.declared.states.State.{State}
 use Rattle.hac_model.specs.declared.terms.Term.{Term}
 use Rattle.hac_model.proofs.AcyclicLemmas.{apply-valid}
-use Rattle.hac_model.proofs.FactLemmas.{edges-told, facts-law}
+use Rattle.hac_model.proofs.FactLemmas.{answers-fact, edges-told, facts-law, permanent-fact, prohibited-fact}
 use Rattle.hac_model.proofs.TreeLemmas.{Lives}
 use Rattle.reeval.specs.Judging.{LeavesAlike}
 use Rattle.reeval.proofs.LeaveLemmas.{IsAlike, body-entry, leaves-alike, none-alike}
@@ -116,15 +116,6 @@ same-facts item f g same = record {
   removed = ap (λ (x : Facts). has x.marks.prohibited item) same;
 }
 
-pub permanent-told : (s : State) (n : ℕ) → permanent_at s n ≡ (facts_of s n).marks.permanent
-permanent-told s n = elim (entry_at s.entries n) as (λ o. option_map_or permanent_in (option_map (λ (e : Entry). e.body) o) [] ≡ (facts_at (is_directory_at s.entries) o).marks.permanent) [ None ↦ refl | Some e ↦ refl ]
-
-pub prohibited-told : (s : State) (n : ℕ) → prohibited_at s n ≡ (facts_of s n).marks.prohibited
-prohibited-told s n = elim (entry_at s.entries n) as (λ o. option_map_or prohibited_in (option_map (λ (e : Entry). e.body) o) [] ≡ (facts_at (is_directory_at s.entries) o).marks.prohibited) [ None ↦ refl | Some e ↦ refl ]
-
-answers-told : (s : State) (n : ℕ) → answers_at s n ≡ (facts_of s n).answers
-answers-told s n = elim (entry_at s.entries n) as (λ o. option_map_or answers_in (option_map (λ (e : Entry). e.body) o) [] ≡ (facts_at (is_directory_at s.entries) o).answers) [ None ↦ refl | Some e ↦ refl ]
-
 -- What an event owes.
 
 -- an item that it doesn't touch, directories at which judging doesn't begin, and what they know stay as they are
@@ -161,9 +152,9 @@ module _ (s : State) (event : Event) (item : ℕ) (h : IsValid s) (ok : IsTrue (
   kept-same is term known =
       let m : ℕ = parent_of s item in
       let own : is_document_of s m item ≡ true = ap (λ (b : Bool). b && (m == m)) is ∙ eq-eqb m m refl in
-      ap (λ (answers : List Answer). unwrap_or (kept_for answers term) []) (answers-told s m)
-      ∙ ap (λ (o : Option (List ℕ)). unwrap_or o []) (owes.answers m own term (ap (λ (answers : List Answer). is_kept answers term) (sym (answers-told s m)) ∙ known))
-      ∙ ap (λ (answers : List Answer). unwrap_or (kept_for answers term) []) (sym (ap (λ (f : Facts). f.answers) (facts-law s h event ok m)) ∙ sym (answers-told t m))
+      ap (λ (answers : List Answer). unwrap_or (kept_for answers term) []) (answers-fact s m)
+      ∙ ap (λ (o : Option (List ℕ)). unwrap_or o []) (owes.answers m own term (ap (λ (answers : List Answer). is_kept answers term) (sym (answers-fact s m)) ∙ known))
+      ∙ ap (λ (answers : List Answer). unwrap_or (kept_for answers term) []) (sym (ap (λ (f : Facts). f.answers) (facts-law s h event ok m)) ∙ sym (answers-fact t m))
 
   pub items-same : is_item s item ≡ is_item t item
   items-same = items-seen (entry_at s.entries item) ∙ ap is_seen owes.sight ∙ sym (items-seen (entry_at t.entries item))
@@ -177,8 +168,8 @@ module _ (s : State) (event : Event) (item : ℕ) (h : IsValid s) (ok : IsTrue (
     answers = kept-same;
     queries = owes.queries;
     edges = λ dir still. edges-told s dir ∙ (facts-same is dir still).edges ∙ sym (edges-told t dir);
-    added = λ dir still. ap (λ (ks : List ℕ). has ks item) (permanent-told s dir) ∙ (facts-same is dir still).added ∙ ap (λ (ks : List ℕ). has ks item) (sym (permanent-told t dir));
-    removed = λ dir still. ap (λ (ks : List ℕ). has ks item) (prohibited-told s dir) ∙ (facts-same is dir still).removed ∙ ap (λ (ks : List ℕ). has ks item) (sym (prohibited-told t dir));
+    added = λ dir still. ap (λ (ks : List ℕ). has ks item) (permanent-fact s dir) ∙ (facts-same is dir still).added ∙ ap (λ (ks : List ℕ). has ks item) (sym (permanent-fact t dir));
+    removed = λ dir still. ap (λ (ks : List ℕ). has ks item) (prohibited-fact s dir) ∙ (facts-same is dir still).removed ∙ ap (λ (ks : List ℕ). has ks item) (sym (prohibited-fact t dir));
     below = owes.below;
   }
 

@@ -11,10 +11,7 @@ use Rattle.hac_model.proofs.ListedLemmas.{filter-agree, item-listed}
 use Rattle.hac_model.proofs.MarkLemmas.{has-filter}
 use Rattle.reeval.specs.Judging.{is_linked, judgement, verdict_of}
 use Rattle.reeval.specs.declared.verdicts.Verdict.{Verdict}
-
-and-true : (b : Bool) → (b && true) ≡ b
-and-true true = refl
-and-true false = refl
+use Rattle.hac_model.proofs.ChangeLemmas.{and-true}
 
 filter-none : (xs : List ℕ) → filter (λ x. false) xs ≡ []
 filter-none [] = refl

@@ -1,19 +1,17 @@
 -- From what stays alike of an item and of directories to what all directories say of the item.
-use Rattle.std.proofs.Common.{◌≡◌, ℕ, Bool, true, false, List, [], ◌∷◌, subst, refl, ap, sym, ◌∙◌, inl, inr}
+use Rattle.std.proofs.Common.{◌≡◌, ℕ, Bool, true, false, List, [], ◌∷◌, subst, refl, ap, sym, ◌∙◌}
 use Rattle.std.specs.Prelude.{◌&&◌, ◌||◌, ◌++◌, drop, if◌then◌else◌, length, Option, Some, None, IsTrue, is_some, option_and_then}
-use Rattle.std.specs.List.{AllByRecursion, list_all}
+use Rattle.std.specs.List.{AllByRecursion}
 use Rattle.std.specs.Option.{option_map, option_map_or}
 use Rattle.std.proofs.Math.Bool.{and-false}
 use Rattle.std.proofs.Math.Seq.{drop-append_seam}
-use Rattle.std.proofs.lemmas.Bool.{and_parts}
 use Rattle.hac_model.specs.Query.Formula.{Formula}
-use Rattle.hac_model.specs.Query.Queries.{is_query, terms_of}
+use Rattle.hac_model.specs.Query.Queries.{terms_of}
 use Rattle.hac_model.specs.Query.Words.{has_term}
 use Rattle.hac_model.specs.Tree.Depends.{Among, depends, named_in}
-use Rattle.hac_model.specs.Tree.Events.{are_directories}
-use Rattle.hac_model.specs.Tree.Links.{answers_at, atom, has, is_below, is_item, is_judged, is_lent, is_permanent, is_prohibited, is_semantic, kept_at, lenders, parent_of, passes, permanent_at, query_at, shown_of}
+use Rattle.hac_model.specs.Tree.Links.{answers_at, atom, has, is_below, is_item, is_judged, is_lent, is_permanent, is_prohibited, is_semantic, kept_at, lenders, parent_of, passes, query_at, shown_of}
 use Rattle.hac_model.specs.Tree.Mounts.{is_kept, terms_in, terms_in_use}
-use Rattle.hac_model.specs.Tree.Valid.{AsksWell, IsValid, KeepsWell, is_in_place}
+use Rattle.hac_model.specs.Tree.Valid.{IsValid, KeepsWell, is_in_place}
 use Rattle.hac_model.specs.Tree.{answers_in, body_at, entry_at, extends, is_directory_at, is_document, is_document_at, is_holder_at, is_mount, is_mount_at, path_of, query_in}
 use Rattle.hac_model.specs.declared.states.Answer.{Answer}
 use Rattle.hac_model.specs.declared.states.Body.{Body}
@@ -21,13 +19,12 @@ use Rattle.hac_model.specs.declared.states.Body.TheVariants.{File, Dir, Symlink,
 use Rattle.hac_model.specs.declared.states.Entry.{Entry}
 use Rattle.hac_model.specs.declared.states.State.{State}
 use Rattle.hac_model.specs.declared.terms.Term.{Term}
-use Rattle.hac_model.proofs.AmongLemmas.{among-append}
 use Rattle.hac_model.proofs.ChangeLemmas.{all-weaker}
 use Rattle.hac_model.proofs.KeepingLemmas.{AreKept, EachKept, each-kept}
-use Rattle.hac_model.proofs.MarkLemmas.{all-passes}
-use Rattle.hac_model.proofs.TreeLemmas.{entry_at-all, place-directory}
+use Rattle.hac_model.proofs.TreeLemmas.{entry_at-all}
 use Rattle.reeval.specs.Judging.{JudgesAlike, LeavesAlike, ProvidesAlike, judgement}
 use Rattle.reeval.proofs.AlikeLemmas.{SameInputs, depends-asked, judge-across, none-across}
+use Rattle.hac_model.proofs.AcyclicLemmas.{edge-directory}
 
 always : {X : Type 0} (P : X → Type 0) → ((x : X) → P x) → (xs : List X) → AllByRecursion P xs
 always P each [] = tt
@@ -87,44 +84,6 @@ terms-known s item dir asked h is at =
     let each : EachKept answers s.entries = each-kept answers s.entries (mount-knows s (parent_of s item) h (document-home s item h is)) in
     subst (λ (terms : List Term). AreKept answers terms) (ap (λ (o : Option (Formula ℕ)). option_map_or terms_of o []) d.2)
     (entry_at-all (λ e. AreKept answers (terms_in e.body)) s.entries dir d.0 each d.1)
-
--- what a directory depends on is a directory
-pub edge-directory : (s : State) (dir e : ℕ) → IsValid s → Among (depends s dir) e → is_directory_at s.entries e ≡ true
-edge-directory s dir e h edge = at (query_at s dir) refl edge
-  where
-    fits : (d : Entry) → AsksWell s d.body → (b : Body) → d.body ≡ b → (asked : Formula ℕ) → query_in b ≡ Some asked → are_directories s (named_in asked) ≡ true
-    fits d asks (Semantic query permanent prohibited) is asked same =
-        let even : query ≡ asked = cc in
-        let sound = subst (AsksWell s) is asks in
-        subst (λ (q : Formula ℕ). are_directories s (named_in q) ≡ true) even (and_parts (is_query query) (are_directories s (named_in query)) sound.fits).1
-    fits d asks (File text dirty shown) is asked same = absurd cc
-    fits d asks Dir is asked same = absurd cc
-    fits d asks (Symlink target) is asked same = absurd cc
-    fits d asks (Mount space answers) is asked same = absurd cc
-    fits d asks Document is asked same = absurd cc
-
-    among : (p : ℕ → Bool) (xs : List ℕ) → list_all p xs ≡ true → Among xs e → p e ≡ true
-    among p [] all inside = absurd inside
-    among p (x ∷ xs) all (inl same) = ap p (sym same) ∙ (and_parts (p x) (list_all p xs) all).0
-    among p (x ∷ xs) all (inr more) = among p xs (and_parts (p x) (list_all p xs) all).1 more
-
-    passed : (p : ℕ → Bool) (xs : List ℕ) → AllByRecursion (λ x. p x ≡ true) xs → Among xs e → p e ≡ true
-    passed p [] all inside = absurd inside
-    passed p (x ∷ xs) all (inl same) = ap p (sym same) ∙ all.0
-    passed p (x ∷ xs) all (inr more) = passed p xs all.1 more
-
-    at : (o : Option (Formula ℕ)) → query_at s dir ≡ o → Among (option_map_or (λ query. parent_of s dir ∷ named_in query ++ lenders s dir) o []) e → is_directory_at s.entries e ≡ true
-    at None asks inside = absurd inside
-    at (Some asked) asks (inl same) =
-        let d = query-entry s dir asked asks in
-        ap (is_directory_at s.entries) (sym same ∙ parent-found s dir d.0 d.1)
-        ∙ place-directory s.entries d.0 (entry_at-all (λ e. IsTrue (is_in_place s.entries e)) s.entries dir d.0 h.layout.places d.1)
-    at (Some asked) asks (inr more) = elim (among-append (named_in asked) (lenders s dir) e more) [
-      | inl named ↦
-          (let d = query-entry s dir asked asks in
-          among (is_directory_at s.entries) (named_in asked) (fits d.0 (entry_at-all (λ e. AsksWell s e.body) s.entries dir d.0 h.queries d.1) d.0.body refl asked d.2) named)
-      | inr lending ↦ passed (is_directory_at s.entries) (lenders s dir) (all-passes (is_directory_at s.entries) (permanent_at s dir)) lending
-    ]
 
 -- What is no item.
 

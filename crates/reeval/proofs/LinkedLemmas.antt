@@ -16,7 +16,7 @@ use Rattle.set_pool.proofs.RisingLemmas.{is_among-above, rises-filter}
 use Rattle.reeval.specs.Judging.{no_verdict, verdict_of}
 use Rattle.reeval.specs.Settled.{AreLinksOf, verdict_in}
 use Rattle.reeval.specs.declared.verdicts.Verdict.{Verdict}
-use Rattle.reeval.proofs.ToldLemmas.{flipped}
+use Rattle.hac_model.proofs.AmongLemmas.{eqb-turned}
 
 -- lists that rise are told by who is among their numbers
 above-more : (x y : ℕ) (ys : List ℕ) → x < y → AllAbove y ys → AllAbove x ys
@@ -58,7 +58,7 @@ items-rise s = rises-filter (is_item s) (range_with_len 0 s.next) (range-rises 0
 
 has-among : (numbers : List ℕ) (n : ℕ) → has numbers n ≡ is_among n numbers
 has-among [] n = refl
-has-among (x ∷ xs) n = λ i. flipped x n i || has-among xs n i
+has-among (x ∷ xs) n = λ i. eqb-turned x n i || has-among xs n i
 
 pub links-told : (s : State) (known : Known) → IsValid s → LinkListsRise known → ((item dir : ℕ) → verdict_in known item dir ≡ verdict_of s item dir) → AreLinksOf s known
 links-told s known valid rise same = record {

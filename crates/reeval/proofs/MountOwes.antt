@@ -33,6 +33,7 @@ use Rattle.reeval.proofs.EventLemmas.{FactsAlike, ItemSeen, Owes, documents-seen
 use Rattle.reeval.proofs.OweLemmas.{AllStayIn, added-stay, all-parents, all-then, edited-stay, keeping-item, keeping-query, mount-other, own-mount, parents-then, put-other, such-item, such-query}
 use Rattle.reeval.proofs.StayLemmas.{ParentsStay}
 use Rattle.reeval.proofs.TreeOwes.{directory-unseen, mapped-stay}
+use Rattle.hac_model.proofs.AskLemmas.{mount-asks}
 
 -- Documents come.
 
@@ -118,14 +119,6 @@ no-query (Symlink target) is = refl
 no-query (Semantic asked permanent prohibited) is = absurd cc
 no-query (Mount space answers) is = refl
 no-query Document is = refl
-
-mount-asks_nothing : (b : Body) → is_mount b ≡ true → query_in b ≡ None
-mount-asks_nothing (File text dirty shown) is = refl
-mount-asks_nothing Dir is = refl
-mount-asks_nothing (Symlink target) is = refl
-mount-asks_nothing (Semantic asked permanent prohibited) is = absurd cc
-mount-asks_nothing (Mount space answers) is = refl
-mount-asks_nothing Document is = refl
 
 -- What is known of a mount beside its answers.
 
@@ -353,7 +346,7 @@ module _ (s : State) (item : ℕ) (h : IsValid s) where
     -- and nothing with a query
     leaves-plain : (d : ℕ) (e : Entry) → entry_at s.entries d ≡ Some e → leaves e ≡ true → query_in e.body ≡ None
     leaves-plain d e found leaving = elim (leaves-own d e found leaving) [
-      | inl here ↦ mount-asks_nothing e.body (ap (λ (o : Option Entry). option_map_or is_mount (option_map (λ (e : Entry). e.body) o) false) (sym found ∙ ap (entry_at s.entries) here) ∙ stands)
+      | inl here ↦ mount-asks e.body (ap (λ (o : Option Entry). option_map_or is_mount (option_map (λ (e : Entry). e.body) o) false) (sym found ∙ ap (entry_at s.entries) here) ∙ stands)
       | inr own ↦ no-query e.body own.0
     ]
 

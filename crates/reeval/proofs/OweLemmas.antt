@@ -119,10 +119,6 @@ keeping-item answers dir other = refl
 
 -- Queries after an edit.
 
-pub rewritten-query : (text : List ℕ) (b : Body) → query_in (rewritten text b) ≡ query_in b
-rewritten-query text (File old dirty shown) = refl
-rewritten-query text other = refl
-
 pub indexed-query : (b : Body) → query_in (indexed b) ≡ query_in b
 indexed-query (File old dirty shown) = refl
 indexed-query other = refl

@@ -14,7 +14,8 @@ use Rattle.reeval.specs.Told.{news_on, told}
 use Rattle.reeval.specs.declared.planning.Task.{Task}
 use Rattle.reeval.specs.declared.verdicts.Change.{Change}
 use Rattle.reeval.proofs.JudgeLemmas.{links-judged}
-use Rattle.reeval.proofs.SettleLemmas.{among-has, has-among, settled-all, settled-none}
+use Rattle.reeval.proofs.SettleLemmas.{settled-all, settled-none}
+use Rattle.hac_model.proofs.AmongLemmas.{among-has, has-among}
 
 -- where judging begins nowhere, all stays as it was
 pub unmoved : (s t : State) (item : ℕ) → Covers s t [] item → (dir : ℕ) → verdict_of s item dir ≡ verdict_of t item dir

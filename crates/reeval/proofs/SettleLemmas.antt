@@ -11,7 +11,7 @@ use Rattle.hac_model.specs.Tree.Costs.{is_shifted}
 use Rattle.hac_model.specs.Tree.Depends.{Among, depends, named_in}
 use Rattle.hac_model.specs.Tree.Links.{column, has, is_item, is_lent, is_semantic, lenders, links, parent_of, passes, provide, query_at}
 use Rattle.hac_model.specs.declared.states.State.{State}
-use Rattle.hac_model.proofs.AmongLemmas.{among-left, among-right}
+use Rattle.hac_model.proofs.AmongLemmas.{among-has, among-left, among-right, has-among}
 use Rattle.hac_model.proofs.CycleLemmas.{any-among}
 use Rattle.hac_model.proofs.LinkLemmas.{lent-same, passes-same, provide-same}
 use Rattle.reeval.specs.Judging.{is_linked, judgement, verdict_of}
@@ -19,17 +19,6 @@ use Rattle.reeval.specs.Routes.{Covers, begins_at, dirs_of, ties_at}
 use Rattle.reeval.specs.declared.settling.Stop.{Stop}
 use Rattle.reeval.specs.declared.verdicts.Verdict.{Verdict}
 use Rattle.reeval.proofs.JudgeLemmas.{verdicts-only}
-
--- who is among numbers, as a test
-pub among-has : (ns : List ℕ) (n : ℕ) → Among ns n → has ns n ≡ true
-among-has ns n inside = any-among (λ other. other == n) ns n inside (eq-eqb n n refl)
-
-pub has-among : (ns : List ℕ) (n : ℕ) → has ns n ≡ true → Among ns n
-has-among [] n is = absurd cc
-has-among (m ∷ ns) n is = elim (m == n) as (λ b. (m == n) ≡ b → (b || has ns n) ≡ true → (m ≡ n) ⊎ Among ns n) [
-  | true ↦ (λ same is. inl (eqb-true m n same))
-  | false ↦ (λ other is. inr (has-among ns n is))
-] refl is
 
 pub absent : (ns : List ℕ) (n : ℕ) → ¬ Among ns n → has ns n ≡ false
 absent ns n out = elim (has ns n) as (λ b. has ns n ≡ b → b ≡ false) [ true ↦ (λ is. absurd (out (has-among ns n is))) | false ↦ (λ _. refl) ] refl

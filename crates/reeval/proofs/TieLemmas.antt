@@ -16,16 +16,16 @@ use Rattle.hac_model.specs.declared.marks.Mark.{Mark}
 use Rattle.hac_model.specs.declared.states.Body.{Body}
 use Rattle.hac_model.specs.declared.states.Entry.{Entry}
 use Rattle.hac_model.specs.declared.states.State.{State}
-use Rattle.hac_model.proofs.AcyclicLemmas.{apply-valid}
-use Rattle.hac_model.proofs.FactLemmas.{facts-law}
+use Rattle.hac_model.proofs.AcyclicLemmas.{apply-valid, edge-directory}
+use Rattle.hac_model.proofs.FactLemmas.{facts-law, permanent-fact, prohibited-fact}
 use Rattle.hac_model.proofs.ValidLemmas.{marked-kind}
 use Rattle.hac_model.proofs.ViewLemmas.{seen-kept}
 use Rattle.reeval.specs.Judging.{FindsAlike, TiesAlike}
 use Rattle.reeval.specs.declared.verdicts.Verdict.{Verdict}
 use Rattle.reeval.proofs.AlikeLemmas.{finds-across, none-across}
 use Rattle.reeval.proofs.AskOwes.{mark-owes, marked-added, marked-removed}
-use Rattle.reeval.proofs.EventLemmas.{Owes, alike, items-same, permanent-told, prohibited-told, query_of}
-use Rattle.reeval.proofs.LeaveLemmas.{IsAlike, atoms-same, edge-directory, judged-same, no_item-judged, none-provided, provided-same}
+use Rattle.reeval.proofs.EventLemmas.{Owes, alike, items-same, query_of}
+use Rattle.reeval.proofs.LeaveLemmas.{IsAlike, atoms-same, judged-same, no_item-judged, none-provided, provided-same}
 use Rattle.reeval.proofs.OweLemmas.{marked-query}
 
 module _ (s : State) (mark : Mark) (item : ℕ) (h : IsValid s) (ok : IsTrue (accepted s (event.Mark mark))) (untouched : touches s (event.Mark mark) item ≡ false) where
@@ -84,16 +84,16 @@ module _ (s : State) (mark : Mark) (item : ℕ) (h : IsValid s) (ok : IsTrue (ac
     -- so any directory to which it was added still has it
     added : (n : ℕ) → is_permanent s n item ≡ is_permanent t n item
     added n =
-        ap (λ (ks : List ℕ). has ks item) (permanent-told s n)
+        ap (λ (ks : List ℕ). has ks item) (permanent-fact s n)
         ∙ marks-stay (λ marks. marks.permanent) (marked-added mark.item item other mark.kind) n
-        ∙ ap (λ (ks : List ℕ). has ks item) (sym (permanent-told t n))
+        ∙ ap (λ (ks : List ℕ). has ks item) (sym (permanent-fact t n))
 
     -- and any from which it was removed still lacks it
     removed : (n : ℕ) → is_prohibited s n item ≡ is_prohibited t n item
     removed n =
-        ap (λ (ks : List ℕ). has ks item) (prohibited-told s n)
+        ap (λ (ks : List ℕ). has ks item) (prohibited-fact s n)
         ∙ marks-stay (λ marks. marks.prohibited) (marked-removed mark.item item other mark.kind) n
-        ∙ ap (λ (ks : List ℕ). has ks item) (sym (prohibited-told t n))
+        ∙ ap (λ (ks : List ℕ). has ks item) (sym (prohibited-fact t n))
 
     -- and any directory finds it alike, if those on which it depends provide it alike
     finds-same : (dir : ℕ) → FindsAlike s t item dir

@@ -8,15 +8,7 @@ use Rattle.std.specs.List.{list_all}
 use Rattle.reeval.specs.Told.{are_same, is_on, latest, news_on, told}
 use Rattle.reeval.specs.declared.verdicts.Change.{Change}
 use Rattle.reeval.specs.declared.verdicts.Verdict.{Verdict}
-
-pub flipped : (a b : ℕ) → (a == b) ≡ (b == a)
-flipped a b = elim (a == b) as (λ t. (a == b) ≡ t → t ≡ (b == a)) [
-  | true ↦ (λ same. sym (eq-eqb b a (sym (eqb-true a b same))))
-  | false ↦ (λ other. elim (b == a) as (λ t. (b == a) ≡ t → false ≡ t) [
-    | true ↦ (λ same. sym other ∙ eq-eqb a b (sym (eqb-true b a same)))
-    | false ↦ (λ _. refl)
-  ] refl)
-] refl
+use Rattle.hac_model.proofs.AmongLemmas.{eqb-turned}
 
 pub latest-pushed : (news : List Change) (more : Change) (dir : ℕ) (verdict : Verdict) → latest (news ++ more ∷ []) dir verdict ≡ (if more.dir == dir then more.verdict else latest news dir verdict)
 latest-pushed [] more dir verdict = refl
@@ -25,7 +17,7 @@ latest-pushed (first ∷ news) more dir verdict = latest-pushed news more dir (i
 pub told-pushed : (news : List Change) (dir item : ℕ) (verdict : Verdict) (verdicts : ℕ → Verdict) (d : ℕ) →
     told (news ++ record { dir = dir; item = item; verdict = verdict } ∷ []) verdicts d ≡ (if d == dir then verdict else told news verdicts d)
 told-pushed news dir item verdict verdicts d =
-    latest-pushed news (record { dir = dir; item = item; verdict = verdict }) d (verdicts d) ∙ ap (λ (b : Bool). if b then verdict else told news verdicts d) (flipped dir d)
+    latest-pushed news (record { dir = dir; item = item; verdict = verdict }) d (verdicts d) ∙ ap (λ (b : Bool). if b then verdict else told news verdicts d) (eqb-turned dir d)
 
 one-same : (a b : Bool) → beq a b ≡ true → a ≡ b
 one-same true true h = refl

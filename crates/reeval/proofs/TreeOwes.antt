@@ -2,7 +2,7 @@
 use Rattle.std.proofs.Common.{◌≡◌, ℕ, Bool, true, false, List, map, refl, ap, sym, ◌∙◌}
 use Rattle.std.specs.Prelude.{◌==◌, ◌&&◌, if◌then◌else◌, not, Option, Some, None, IsTrue, is_some}
 use Rattle.std.specs.Option.{option_map, option_map_or}
-use Rattle.std.proofs.lemmas.Bool.{ne_eqb}
+use Rattle.std.proofs.lemmas.Bool.{ne_eqb, or_right}
 use Rattle.hac_model.specs.Tree.Events.{accepted, added, apply, changed_at, edited, forgetting, forgotten, indexed, is_possible, next_dirty, plain_body, removed, rewritten, without}
 use Rattle.hac_model.specs.Tree.Facts.{Facts, facts_after, facts_of, no_facts}
 use Rattle.hac_model.specs.Tree.Limits.{passed_limit}
@@ -18,7 +18,6 @@ use Rattle.hac_model.specs.declared.states.Body.TheVariants.{File, Dir, Symlink,
 use Rattle.hac_model.specs.declared.states.Entry.{Entry}
 use Rattle.hac_model.specs.declared.states.State.{State}
 use Rattle.hac_model.proofs.AcyclicLemmas.{apply-valid}
-use Rattle.hac_model.proofs.ChangeLemmas.{or-right}
 use Rattle.hac_model.proofs.PathLemmas.{root-none}
 use Rattle.hac_model.proofs.TreeLemmas.{directory-no_item}
 use Rattle.hac_model.proofs.MapLemmas.{entry_at-mapped}
@@ -26,8 +25,9 @@ use Rattle.hac_model.proofs.MarkLemmas.{has-filter}
 use Rattle.hac_model.proofs.ValidLemmas.{accepted-parts, rmdir-parts}
 use Rattle.hac_model.proofs.ViewLemmas.{put-same, seen-added, seen-changed, seen-kept, seen-plain, seen-removed}
 use Rattle.reeval.proofs.EventLemmas.{Owes, item_in, owed-below, query_of, same-facts, unseen}
-use Rattle.reeval.proofs.OweLemmas.{AllStayIn, added-stay, all-parents, edited-stay, forgetting-item, forgetting-query, indexed-query, none-of, own-mount, parents-then, plain-item, put-other, rewritten-item, rewritten-query}
+use Rattle.reeval.proofs.OweLemmas.{AllStayIn, added-stay, all-parents, edited-stay, forgetting-item, forgetting-query, indexed-query, none-of, own-mount, parents-then, plain-item, put-other, rewritten-item}
 use Rattle.reeval.proofs.StayLemmas.{ParentsStay}
+use Rattle.hac_model.proofs.AskLemmas.{rewritten-query}
 
 -- all entries stay where nothing changes
 same-stay : (s : State) → AllStayIn s s
@@ -199,7 +199,7 @@ module _ (s : State) (item : ℕ) (h : IsValid s) where
   rmdir-owes dir ok =
       let parts = rmdir-parts s dir (accepted-parts (is_possible s (event.Rmdir dir)) (passed_limit (apply s (event.Rmdir dir))) ok).0 in
       record {
-        sight = sym (put-same (λ n. item_in (entry_at s.entries n)) dir None item (sym (directory-unseen s dir h.layout (or-right (dir == 0) (is_made_directory s.entries dir) parts.0)))) ∙ sym (seen-removed item_in s.entries dir item);
+        sight = sym (put-same (λ n. item_in (entry_at s.entries n)) dir None item (sym (directory-unseen s dir h.layout (or_right (dir == 0) (is_made_directory s.entries dir) parts.0)))) ∙ sym (seen-removed item_in s.entries dir item);
         queries = λ d still. put-other (query_at s) dir None d (none-of false false (d == dir) still).2 ∙ sym (seen-removed query_of s.entries dir d);
         facts = λ is d still. same-facts item (facts_of s d) (facts_after (event.Rmdir dir) s (facts_of s) d) (put-other (facts_of s) dir no_facts d (none-of false false (d == dir) still).2);
         answers = λ mount own term known. ap (λ (f : Facts). kept_for f.answers term) (put-other (facts_of s) dir no_facts mount (apart-mount mount dir own parts.4));

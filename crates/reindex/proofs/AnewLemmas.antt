@@ -1,16 +1,14 @@
 -- The links of a state as they are found from nothing, item by item.
 use Rattle.std.proofs.Common.{◌≡◌, ℕ, ◌+◌, ◌≤◌, Bool, true, false, cond, List, [], ap, eq-eqb, refl, sym, subst, ◌∙◌, arith}
-use Rattle.std.specs.Prelude.{◌==◌, nat_lt, Option, None, IfOk, Result, Ok, Err, Vec}
+use Rattle.std.specs.Prelude.{◌==◌, nat_lt, None, IfOk, Result, Ok, Err, Vec}
 use Rattle.std.specs.List.{list_all}
-use Rattle.std.specs.Option.{option_map, option_map_or}
 use Rattle.std.specs.declared.alloc.Global.{Global}
 use Rattle.std.proofs.lemmas.Bool.{eqb-true}
 use Rattle.std.proofs.lemmas.Bool.Decides.{nat_tests}
 use Rattle.hac_model.specs.Tree.Links.{is_item, is_judged}
 use Rattle.hac_model.specs.Tree.Valid.{IsValid}
-use Rattle.hac_model.specs.Tree.{entry_at, is_linkable}
+use Rattle.hac_model.specs.Tree.{entry_at}
 use Rattle.hac_model.specs.declared.memory.Memory.{Memory}
-use Rattle.hac_model.specs.declared.states.Entry.{Entry}
 use Rattle.hac_model.specs.declared.states.State.{State}
 use Rattle.hac_model.proofs.TreeLemmas.{entry_at-next}
 use Rattle.link_kinds.specs.Seen.{IsEmpty, Known, LinkListsRise, SameKinds}
@@ -25,6 +23,7 @@ use Rattle.reeval.proofs.LinkedLemmas.{links-told, told-alike, told-nothing}
 use Rattle.reeval.proofs.PlanLemmas.{no-item, unjudged-said}
 use Rattle.reeval.proofs.ToldLemmas.{news-here, news-there}
 use Rattle.reindex.specs.Anew.{AreAllNews, AreLinksBelow, LendsNothing}
+use Rattle.hac_model.proofs.ListedLemmas.{none-item}
 
 -- One item.
 
@@ -105,10 +104,6 @@ module _ (s : State) (number : ℕ) (old room new : Known) (news : List Change) 
 pub below-none-more : (s : State) (known : Known) (number : ℕ) → IsValid s → is_item s number ≡ false → AreLinksBelow s known number → AreLinksBelow s known (number + 1)
 below-none-more s known number valid out h =
     below-more s number known known known [] h (λ dir. refl) (news-of-none s number [] valid refl out) (λ item dir. refl)
-
--- a number of no entry is that of no item
-none-item : (s : State) (number : ℕ) → entry_at s.entries number ≡ None → is_item s number ≡ false
-none-item s number none = ap (λ (o : Option Entry). option_map_or is_linkable (option_map (λ (e : Entry). e.body) o) false) none
 
 -- so it has none either
 pub none-passed : (s : State) (known : Known) (number : ℕ) → IsValid s → entry_at s.entries number ≡ None → AreLinksBelow s known number → AreLinksBelow s known (number + 1)

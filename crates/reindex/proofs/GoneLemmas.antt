@@ -13,11 +13,11 @@ use Rattle.reeval.specs.declared.settling.Stop.{Stop}
 use Rattle.reeval.specs.declared.verdicts.Change.{Change}
 use Rattle.reeval.specs.declared.verdicts.Verdict.{Verdict}
 use Rattle.reeval.proofs.JudgeLemmas.{links-judged}
-use Rattle.reeval.proofs.SettleLemmas.{among-has}
 use Rattle.reeval.proofs.ToldLemmas.{latest-pushed, own-pushed}
 use Rattle.reindex.specs.Ways.{IsWayOf}
 use Rattle.reindex.specs.declared.ways.Way.{Way}
 use Rattle.reindex.proofs.WayLemmas.{dirs-way, unasked}
+use Rattle.hac_model.proofs.AmongLemmas.{among-has}
 
 -- what isn't semantic says nothing
 plain-said : (s : State) → IsValid s → (item dir : ℕ) → is_semantic s dir ≡ false → verdict_of s item dir ≡ no_verdict

@@ -23,6 +23,8 @@ use Rattle.hac_model.proofs.ChangeLemmas.{changed-low}
 use Rattle.hac_model.proofs.TreeLemmas.{entry_at-number}
 use Rattle.reindex.proofs.LeftLemmas.{Leaves, added-left, below-left, depends-left, entry_at-left, item-left, lenders-left, parent-left, path_of-left, permanent-left, prohibited-left, query-left, seen-left, semantic-left}
 use Rattle.reindex.specs.Steps.{indexed_if, indexed_through, indexed_to}
+use Rattle.hac_model.proofs.ValidLemmas.{indexed-document, indexed-linkable}
+use Rattle.reeval.proofs.OweLemmas.{indexed-query}
 
 -- What indexing leaves.
 
@@ -34,21 +36,9 @@ indexed_body last e = indexed_if (nat_le e.number last) e.body
 of_body : {X : Type 0} (view : Body → X) → ((b : Body) → view (indexed b) ≡ view b) → (last : ℕ) (e : Entry) → view (indexed_body last e) ≡ view e.body
 of_body view same last e = elim (nat_le e.number last) as (λ b. view (indexed_if b e.body) ≡ view e.body) [ true ↦ same e.body | false ↦ refl ]
 
-kept-linkable : (b : Body) → is_linkable (indexed b) ≡ is_linkable b
-kept-linkable (File text dirty shown) = refl
-kept-linkable other = refl
-
-kept-document : (b : Body) → is_document (indexed b) ≡ is_document b
-kept-document (File text dirty shown) = refl
-kept-document other = refl
-
 kept-directory : (b : Body) → is_directory (indexed b) ≡ is_directory b
 kept-directory (File text dirty shown) = refl
 kept-directory other = refl
-
-kept-query : (b : Body) → query_in (indexed b) ≡ query_in b
-kept-query (File text dirty shown) = refl
-kept-query other = refl
 
 kept-permanent : (b : Body) → permanent_in (indexed b) ≡ permanent_in b
 kept-permanent (File text dirty shown) = refl
@@ -64,9 +54,9 @@ kept-answers other = refl
 
 leaves : (last : ℕ) → Leaves (indexed_body last)
 leaves last = record {
-  linkable = of_body is_linkable kept-linkable last;
+  linkable = of_body is_linkable indexed-linkable last;
   directory = of_body is_directory kept-directory last;
-  query = of_body query_in kept-query last;
+  query = of_body query_in indexed-query last;
   permanent = of_body permanent_in kept-permanent last;
   prohibited = of_body prohibited_in kept-prohibited last;
 }
@@ -85,7 +75,7 @@ module _ (last : ℕ) (s : State) where
   item-indexed = item-left (indexed_body last) (leaves last) s
 
   pub document-indexed : (n : ℕ) → is_document_at t.entries n ≡ is_document_at s.entries n
-  document-indexed n = seen-left (indexed_body last) (λ o. option_map_or is_document (option_map (λ (e : Entry). e.body) o) false) s.entries n (of_body is_document kept-document last)
+  document-indexed n = seen-left (indexed_body last) (λ o. option_map_or is_document (option_map (λ (e : Entry). e.body) o) false) s.entries n (of_body is_document indexed-document last)
 
   pub parent-indexed : (n : ℕ) → parent_of t n ≡ parent_of s n
   parent-indexed = parent-left (indexed_body last) (leaves last) s

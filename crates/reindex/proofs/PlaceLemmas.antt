@@ -11,12 +11,13 @@ use Rattle.hac_model.specs.Query.Formula.{Formula}
 use Rattle.hac_model.specs.Tree.Links.{has, query_at}
 use Rattle.hac_model.specs.Tree.Valid.{RiseFrom}
 use Rattle.hac_model.specs.declared.states.State.{State}
-use Rattle.hac_model.proofs.SortedLemmas.{drop-next, get-inside, get-outside}
+use Rattle.hac_model.proofs.SortedLemmas.{drop-next}
 use Rattle.query_index.specs.Numbers.{AreThose}
 use Rattle.query_index.specs.Seen.{ArePlaces, passes_at}
 use Rattle.reeval.specs.Routes.{dirs_of}
 use Rattle.reeval.specs.declared.settling.Stop.{Stop}
 use Rattle.reindex.specs.Ways.{any_leans, begins_there, begun, begun_at, begun_there, needed}
+use Rattle.std.proofs.lemmas.Option.{slice_get-get_or, slice_get_past}
 
 -- the places of queries that pass a test are those of stops whose directories ask such queries
 pub places-begin : (s : State) (test : Formula ℕ → Bool) (stops : List Stop) (places : List ℕ) → ArePlaces (map (query_at s) (dirs_of stops)) test places →
@@ -105,13 +106,13 @@ needed-more begins stops places i stop chosen old new are inside is among added 
     same =
         among
         ∙ are.all i
-        ∙ ap (λ (o : Option Stop). option_map_or (λ stop. begins stop.dir) o false) (get-inside stops i stop inside)
+        ∙ ap (λ (o : Option Stop). option_map_or (λ stop. begins stop.dir) o false) (slice_get-get_or stops i stop inside)
         ∙ ap (λ (found : Stop). begins found.dir) (sym is)
 
 -- no stop is at a place outside
 pub none-there : (stops : List Stop) (place : ℕ) (items : List Stop) → length stops ≤ place → items ≡ items ++ begun_there stops place
 none-there stops place items outside =
-    sym (ap (λ (o : Option Stop). items ++ option_map_or (λ stop. record stop { begins = true } ∷ []) o []) (get-outside stops place outside) ∙ append-nil items)
+    sym (ap (λ (o : Option Stop). items ++ option_map_or (λ stop. record stop { begins = true } ∷ []) o []) (slice_get_past stops place outside) ∙ append-nil items)
 
 -- none but the first is the least that may be there
 first-there : (first place : ℕ) (more : List ℕ) → RiseFrom place (first ∷ more) → (first == place) ≡ has (first ∷ more) place

@@ -9,11 +9,10 @@ use Rattle.hac_model.specs.Tree.Depends.{Among}
 use Rattle.hac_model.specs.Tree.Links.{has}
 use Rattle.hac_model.specs.declared.memory.Memory.{Memory}
 use Rattle.hac_model.specs.declared.states.State.{State}
-use Rattle.hac_model.proofs.AmongLemmas.{among-append, among-left, among-right}
+use Rattle.hac_model.proofs.AmongLemmas.{among-append, among-has, among-left, among-right, has-among}
 use Rattle.reeval.specs.Judging.{verdict_of}
 use Rattle.reeval.specs.Told.{is_on, news_on, told}
 use Rattle.reeval.specs.declared.verdicts.Change.{Change}
-use Rattle.reeval.proofs.SettleLemmas.{among-has, has-among}
 use Rattle.reeval.proofs.ToldLemmas.{news-here, news-there}
 use Rattle.reindex.specs.Past.{Lead}
 use Rattle.reindex.specs.Steps.{AreSettled}

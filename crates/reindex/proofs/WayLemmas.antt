@@ -22,11 +22,13 @@ use Rattle.reeval.specs.Routes.{Covers, IsRoute, begins_at, dirs_of, ties_at}
 use Rattle.reeval.proofs.AlikeLemmas.{touched-leave}
 use Rattle.reeval.proofs.JudgeLemmas.{links-judged}
 use Rattle.reeval.proofs.PlanLemmas.{begins-more}
-use Rattle.reeval.proofs.SettleLemmas.{among-has}
 use Rattle.reeval.proofs.WeightLemmas.{ordered-once}
 use Rattle.reindex.specs.Ways.{IsWayOf, IsWayOver, begun_at, leans, stops_at, stops_from, with_first}
 use Rattle.reeval.specs.declared.settling.Stop.{Stop}
 use Rattle.reindex.specs.declared.ways.Way.{Way}
+use Rattle.hac_model.proofs.AmongLemmas.{among-has}
+use Rattle.hac_model.proofs.ChangeLemmas.{and-true}
+use Rattle.link_kinds.proofs.KeptLemmas.{none-there}
 
 -- what has edges isn't without
 some-edges : (edges : List ℕ) (n : ℕ) → Among edges n → edges ≢ []
@@ -103,10 +105,6 @@ semantic-depends s dir = elim (query_at s dir) as (λ o. is_some o ≡ true → 
   | None ↦ (λ never. absurd cc)
   | Some query ↦ (λ _ none. absurd cc)
 ]
-
-and-true : (b : Bool) → (b && true) ≡ b
-and-true true = refl
-and-true false = refl
 
 pub covers-everywhere : (s t : State) (leans : ℕ → Bool) (dirs : List ℕ) (item : ℕ) → AreJudged s item → IsValid t → IsOrdered (depends t) dirs → ((q : ℕ) → depends t q ≢ [] → Among dirs q) →
     LeansWell (depends t) leans dirs → ((dir : ℕ) → is_semantic t dir ≡ false → is_semantic s dir ≡ false) → Covers s t (stops_at (λ dir. true) leans dirs) item
@@ -304,10 +302,6 @@ no-numbers ns h = empty ns (eqb-true (length ns) 0 (is (length ns == 0) h))
     empty [] h = refl
     empty (n ∷ ns) h = absurd (omega (arith, h))
 
-none_of : {X : Type 0} (o : Option X) → is_some o ≡ false → o ≡ None
-none_of None h = refl
-none_of (Some x) h = absurd cc
-
 -- a way over all directories that depend on something is that to all semantic ones
 pub way-over : (t : State) (order : List ℕ) (way : Way) → IsWayOver t order way → IsOrdered (depends t) order → ((dir : ℕ) → depends t dir ≢ [] → Among order dir) → ((dir : ℕ) → Among order dir → depends t dir ≢ []) → IsWayOf t way
 way-over t order way over ordered all only = record {
@@ -324,7 +318,7 @@ lends-none s way w not_any dir = at (is_semantic s dir) refl
   where
     at : (b : Bool) → is_semantic s dir ≡ b → lenders s dir ≡ []
     at true is = no-numbers (lenders s dir) (any-none (λ (d : ℕ). not (length (lenders s d) == 0)) w.order (sym w.over.lends ∙ not_any) dir (w.all dir (semantic-depends s dir is)))
-    at false out = plain-lends s dir (none_of (query_at s dir) out)
+    at false out = plain-lends s dir (none-there (query_at s dir) out)
 
 pub way-if : (result : Result Way Memory) (s t : State) (order : List ℕ) → t ≡ s → IsOrdered (depends s) order → ((dir : ℕ) → depends s dir ≢ [] → Among order dir) → ((dir : ℕ) → Among order dir → depends s dir ≢ []) →
     IfOk result (IsWayOver t order) → IfOk result (IsWayOf s)

@@ -19,6 +19,7 @@ use Rattle.hac_model.proofs.ChangeLemmas.{touched, touched-keeps}
 use Rattle.hac_model.proofs.TreeLemmas.{entry_at-number}
 use Rattle.scope_rules.specs.Fates.{SuitsTree, goes, is_indexed, left_parent, left_query, left_shown, new_body, new_parent}
 use Rattle.scope_rules.proofs.EntryLemmas.{IsNew, left_at, stayed}
+use Rattle.hac_model.proofs.ValidLemmas.{indexed-document, indexed-kind, indexed-linkable}
 
 -- Bodies that are edited.
 
@@ -113,18 +114,6 @@ stays tell keeps indexes (Unq dir) es x = stays-but tell keeps (Unq dir) es x (�
 stays tell keeps indexes (Mv entry dir name) es x = stays-but tell keeps (Mv entry dir name) es x (λ same. absurd cc)
 stays tell keeps indexes other es x = refl
 
-indexed-linkable : (body : Body) → is_linkable (indexed body) ≡ is_linkable body
-indexed-linkable (File text dirty shown) = refl
-indexed-linkable other = refl
-
-indexed-directory : (body : Body) → is_directory (indexed body) ≡ is_directory body
-indexed-directory (File text dirty shown) = refl
-indexed-directory other = refl
-
-indexed-document : (body : Body) → is_document (indexed body) ≡ is_document body
-indexed-document (File text dirty shown) = refl
-indexed-document other = refl
-
 -- Tests of what has a number.
 
 -- whether an entry passes a test
@@ -156,7 +145,7 @@ module _ (e : Event) (t : State) (n : ℕ) (is : entry_at (bare_after e t).entri
   item-left = ap (tested is_linkable) is ∙ tested-kept is_linkable e t n (stays is_linkable linkable-keeps indexed-linkable e t.entries)
 
   pub directory-left : is_made_directory (bare_after e t).entries n ≡ (is_made_directory t.entries n && not (goes e t n))
-  directory-left = ap (tested is_directory) is ∙ tested-kept is_directory e t n (stays is_directory directory-keeps indexed-directory e t.entries)
+  directory-left = ap (tested is_directory) is ∙ tested-kept is_directory e t n (stays is_directory directory-keeps indexed-kind e t.entries)
 
   pub document-left : is_document_at (bare_after e t).entries n ≡ (is_document_at t.entries n && not (goes e t n))
   document-left = ap (tested is_document) is ∙ tested-kept is_document e t n (stays is_document document-keeps indexed-document e t.entries)

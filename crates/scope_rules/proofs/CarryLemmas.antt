@@ -1,24 +1,20 @@
 -- What the tree after an event says of the state after it.
-use Rattle.std.proofs.Common.{◌≡◌, ℕ, true, subst, refl, ap, sym, ◌∙◌}
-use Rattle.std.specs.Prelude.{◌&&◌, not, Option, Some, None, is_none, is_some, option_and_then}
-use Rattle.std.specs.Option.{option_map}
+use Rattle.std.proofs.Common.{◌≡◌, ℕ, true, subst, ap, sym, ◌∙◌}
+use Rattle.std.specs.Prelude.{◌&&◌, not, is_none, is_some}
 use Rattle.std.proofs.lemmas.Bool.{and_parts}
 use Rattle.hac_model.specs.Tree.Bare.{bare, bare_body}
-use Rattle.hac_model.specs.Tree.Events.{apply, edited, is_clear, is_made_holder, is_placed, is_possible}
+use Rattle.hac_model.specs.Tree.Events.{apply, is_clear, is_made_holder, is_placed, is_possible}
 use Rattle.hac_model.specs.Tree.Facts.{bare_after}
 use Rattle.hac_model.specs.Tree.Limits.{passed_limit}
 use Rattle.hac_model.specs.Tree.Links.{is_item, parent_of, query_at, shown_of}
 use Rattle.hac_model.specs.Tree.Mounting.{are_documents}
 use Rattle.hac_model.specs.Tree.Valid.{IsLayout}
-use Rattle.hac_model.specs.Tree.{entry_at, is_directory, is_document_at, is_made_directory, is_mount_at, shown_text}
+use Rattle.hac_model.specs.Tree.{entry_at, is_directory, is_document_at, is_made_directory, is_mount_at}
 use Rattle.hac_model.specs.declared.events.Event.{Event}
 use Rattle.hac_model.specs.declared.events.Event.TheVariants.{Setq, Mv, Ssync}
-use Rattle.hac_model.specs.declared.states.Body.{Body}
-use Rattle.hac_model.specs.declared.states.Body.TheVariants.{Semantic, Mount}
-use Rattle.hac_model.specs.declared.states.Entry.{Entry}
 use Rattle.hac_model.specs.declared.states.State.{State}
 use Rattle.hac_model.proofs.AcyclicLemmas.{apply-valid}
-use Rattle.hac_model.proofs.AlikeLemmas.{bare-kind, document-bare, entry_at-bare, layout-bare, layout-unbare, mount-bare, parent_of-bare, query_at-bare, some-bare}
+use Rattle.hac_model.proofs.AlikeLemmas.{bare-kind, document-bare, layout-bare, layout-unbare, mount-bare, parent_of-bare, query_at-bare, shown-bare, some-bare}
 use Rattle.hac_model.proofs.BareLemmas.{bare-commutes}
 use Rattle.hac_model.proofs.FillLemmas.{tree-law}
 use Rattle.hac_model.proofs.MapLemmas.{test-mapped}
@@ -29,18 +25,6 @@ use Rattle.scope_rules.proofs.ProvideLemmas.{item-bare}
 
 made-bare : (s : State) (n : ℕ) → is_made_directory (bare s).entries n ≡ is_made_directory s.entries n
 made-bare s n = test-mapped is_directory bare_body s.entries n bare-kind
-
-shown-bare : (s : State) (n : ℕ) → shown_of (bare s) n ≡ shown_of s n
-shown-bare s n = ap (λ (o : Option Entry). option_and_then shown_text (option_map (λ (x : Entry). x.body) o)) (entry_at-bare s n) ∙ at (entry_at s.entries n)
-  where
-    bodies : (body : Body) → shown_text (bare_body body) ≡ shown_text body
-    bodies (Semantic query permanent prohibited) = refl
-    bodies (Mount space answers) = refl
-    bodies other = refl
-
-    at : (o : Option Entry) → option_and_then shown_text (option_map (λ (x : Entry). x.body) (option_map (edited bare_body) o)) ≡ option_and_then shown_text (option_map (λ (x : Entry). x.body) o)
-    at None = refl
-    at (Some x) = bodies x.body
 
 module _ (s t : State) (e : Event) (before : IsBefore s t e) where
   -- both are of one tree

@@ -1,19 +1,13 @@
 -- What a directory provides, by the links that were found and the marks.
 use Rattle.std.proofs.Common.{◌≡◌, ℕ, Bool, true, false, ◌||◌, ◌&&◌, refl, ap, sym, ◌∙◌}
-use Rattle.std.specs.Prelude.{Option, Some, None, is_some}
-use Rattle.std.specs.Option.{option_map_or}
+use Rattle.std.specs.Prelude.{is_some}
 use Rattle.hac_model.specs.Tree.Bare.{bare}
 use Rattle.hac_model.specs.Tree.Links.{column, has, is_below, is_item, is_semantic, permanent_at, provide}
-use Rattle.hac_model.specs.Tree.{body_at, extends, is_document, is_document_at, is_file, is_file_at, is_linkable}
-use Rattle.hac_model.specs.declared.states.Body.{Body}
+use Rattle.hac_model.specs.Tree.{extends}
 use Rattle.hac_model.specs.declared.states.State.{State}
-use Rattle.hac_model.proofs.AlikeLemmas.{directory-bare, document-bare, file-bare, path_of-bare, query_at-bare}
+use Rattle.hac_model.proofs.AlikeLemmas.{directory-bare, document-bare, file-bare, item-told, path_of-bare, query_at-bare}
 use Rattle.link_kinds.specs.Seen.{Known, permanent_in}
 use Rattle.scope_rules.specs.Made.{IsMadeOf, found_in}
-
--- an item is a file or a document
-item-told : (s : State) (n : ℕ) → is_item s n ≡ (is_file_at s.entries n || is_document_at s.entries n)
-item-told s n = elim (body_at s.entries n) as (λ (o : Option Body). option_map_or is_linkable o false ≡ (option_map_or is_file o false || option_map_or is_document o false)) [ None ↦ refl | Some body ↦ refl ]
 
 pub item-bare : (s : State) (n : ℕ) → is_item (bare s) n ≡ is_item s n
 item-bare s n = item-told (bare s) n ∙ (λ i. file-bare s n i || document-bare s n i) ∙ sym (item-told s n)

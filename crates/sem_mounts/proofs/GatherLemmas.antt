@@ -20,6 +20,7 @@ use Rattle.sem_mounts.specs.Gathering.{is_space_fault}
 use Rattle.sem_mounts.specs.Seen.{Contents, CountsFault, IsSaid, SpacesSeen, is_attached}
 use Rattle.sem_mounts.specs.declared.gathering.GatherFault.{GatherFault}
 use Rattle.sem_mounts.specs.declared.gathering.GatherFault.TheVariants as gather
+use Rattle.std.proofs.lemmas.Bool.{or_right}
 
 -- a map of one value more
 one-more : {X Y : Type 0} (f : X → Y) (xs : List X) (i : ℕ) (x : X) → i < length xs →
@@ -57,10 +58,6 @@ either : (b : Bool) (c d : Bool) → (c ≡ true → d ≡ true) → (b || c) �
 either true c d leads is = refl
 either false c d leads is = leads is
 
-second : (b c : Bool) → c ≡ true → (b || c) ≡ true
-second true c is = refl
-second false c is = is
-
 -- one is among those that pass at the front, if it is so among fewer
 among-front : (q p : List ℕ → Bool) (front back : List (List ℕ)) →
     list_any q (take_while p front) ≡ true → list_any q (take_while p (front ++ back)) ≡ true
@@ -87,7 +84,7 @@ among-behind q p (x ∷ front) back none is =
           list_any q (take_while p (front ++ back)) ≡ true) →
           cond (not passes) (Some x) (find (λ x. not (p x)) front) ≡ None →
           list_any q (cond passes (x ∷ take_while p (front ++ back)) []) ≡ true
-      here true later none = second (q x) _ (later none)
+      here true later none = or_right (q x) _ (later none)
       here false later none = absurd cc
 
 -- how questions end, where all before them were answered

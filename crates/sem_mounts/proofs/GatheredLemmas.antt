@@ -8,13 +8,9 @@ use Rattle.hac_model.specs.Query.Words.{has_term, is_asked, words}
 use Rattle.hac_model.specs.declared.terms.Term.{Term}
 use Rattle.hac_words.proofs.RunLemmas.{list_any-map}
 use Rattle.sem_mounts.specs.WordLists.{IsListOf, Lists, is_listed}
+use Rattle.hac_model.proofs.ChangeLemmas.{or-turned}
 
 -- ---- tests of tests
-
-behind : (a b c : Bool) → (a || (b || c)) ≡ (b || (a || c))
-behind true true c = refl
-behind true false c = refl
-behind false b c = refl
 
 joined : (asked it had later : Bool) →
     ((asked && (it || had)) || later) ≡ ((asked && it) || ((asked && had) || later))
@@ -39,7 +35,7 @@ is_listed-more n number term (first ∷ lists) zero list new below is put =
 is_listed-more n number term (first ∷ lists) (suc place) list new below is put =
     ap (λ later. (is_asked term first.0 && list_any (nat_eq n) first.1) || later)
     (is_listed-more n number term lists place list new (omega (arith, below)) is put)
-    ∙ behind (is_asked term first.0 && list_any (nat_eq n) first.1)
+    ∙ or-turned (is_asked term first.0 && list_any (nat_eq n) first.1)
     (is_asked term list.0 && nat_eq n number) (is_listed lists n term)
 
 -- a list that was written through has one number more, or there was no memory

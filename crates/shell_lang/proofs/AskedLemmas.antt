@@ -7,14 +7,13 @@ use Rattle.std.proofs.lemmas.Bool.Decides.{nat_tests}
 use Rattle.hac_model.specs.Run.Answers.{◌>>=◌}
 use Rattle.hac_model.specs.Query.Formula.{Formula}
 use Rattle.hac_model.specs.Query.Formula as formula
-use Rattle.hac_model.specs.Query.Grammar.{AllPathBytes, IsPath, Reads, escape, escaped, is_control, meaning}
+use Rattle.hac_model.specs.Query.Grammar.{IsPath, Reads, escape, escaped, meaning}
 use Rattle.hac_model.specs.Query.Queries.{are_terms, is_query, letter_count, not_count, term_count}
 use Rattle.hac_model.specs.Query.QueryReading.{are_rooted, dir_word, fresh_reader, limited_query, named, parsed, read_on, read_query, spelled_query, worded}
 use Rattle.hac_model.specs.Query.QueryText.{around, is_joined, is_or, referred_by, query_text}
 use Rattle.hac_model.specs.Query.Words.{has_bytes, is_lower_word_byte, is_word, is_word_byte}
 use Rattle.hac_model.specs.Script.CommandTexts.{query_part, steps, word_text}
 use Rattle.hac_model.specs.Script.PathWords.{word_of}
-use Rattle.hac_model.specs.Tree.Names.{is_name, is_name_byte}
 use Rattle.hac_model.specs.Tree.Paths.{are_names, path_text, slashed}
 use Rattle.hac_model.specs.declared.limits.LimitWord.TheVariants as limit
 use Rattle.hac_model.specs.declared.limits.TheConstants.{NESTING_LIMIT, QUERY_LIMIT, TERMS_LIMIT}
@@ -24,7 +23,6 @@ use Rattle.hac_model.specs.declared.replies.Refusal.{Refusal}
 use Rattle.hac_model.specs.declared.replies.Refusal.TheVariants.{Limit}
 use Rattle.hac_model.specs.declared.terms.Term.TheVariants as term
 use Rattle.hac_model.proofs.QueryLemmas.{read_spelled}
-use Rattle.hac_model.proofs.WordLemmas.{leads_down}
 use Rattle.query_text.proofs.FaultLemmas.{is_found, read_is_found}
 use Rattle.query_text.proofs.PrintLemmas.{text_means, text_spells, trees}
 use Rattle.query_text.specs.Laws.{ArePaths, IsFound}
@@ -32,6 +30,7 @@ use Rattle.shell_lang.proofs.GivenLemmas.{IsAsked, IsWord}
 use Rattle.shell_lang.proofs.LineLemmas.{asked_as}
 use Rattle.shell_lang.proofs.NestingLemmas.{deep, nests, pair, text_nesting}
 use Rattle.shell_lang.proofs.PathLemmas.{all-weaker, is_inner, is_one_line, marked-one_line, one_line-join, word-one_line, word-parts, word_text-read}
+use Rattle.query_text.proofs.BackLemmas.{text_path}
 
 -- What is known of a query that is read.
 
@@ -90,25 +89,8 @@ read-words bytes q e =
 
 -- Paths between braces.
 
-name_byte : (b : ℕ) → is_name_byte b ≡ true → is_control b ≡ false
-name_byte b h = grind (arith, nat_tests)
-
-name-bytes : (name rest : List ℕ) → list_all is_name_byte name ≡ true → AllPathBytes rest → AllPathBytes (name ++ rest)
-name-bytes [] rest h all = all
-name-bytes (b ∷ name) rest h all = let p = and_parts (is_name_byte b) (list_all is_name_byte name) h in (name_byte b p.0, name-bytes name rest p.1 all)
-
-names-bytes : (names : List (List ℕ)) → are_names names ≡ true → AllPathBytes (flat_map slashed names)
-names-bytes [] h = tt
-names-bytes (name ∷ names) h =
-    let p = and_parts (is_name name) (are_names names) h in
-    (refl, name-bytes name (flat_map slashed names) (leads_down name p.0).part (names-bytes names p.1))
-
-path-is : (path : List (List ℕ)) → are_names path ≡ true → IsPath (path_text path)
-path-is [] h = (refl, tt)
-path-is (name ∷ names) h = (refl, (names-bytes (name ∷ names) h).1)
-
 rooted-path : (word : PathWord) → word.absolute ≡ true → are_names word.names ≡ true → IsPath (word_text word)
-rooted-path word is names = subst IsPath (ap (λ (t : Bool). if t then path_text word.names else codes "." ++ flat_map slashed (steps word)) (sym is)) (path-is word.names names)
+rooted-path word is names = subst IsPath (ap (λ (t : Bool). if t then path_text word.names else codes "." ++ flat_map slashed (steps word)) (sym is)) (text_path word.names names)
 
 -- One line.
 

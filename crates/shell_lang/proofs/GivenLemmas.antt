@@ -1,5 +1,5 @@
 -- What is known of a command that some bytes are read as.
-use Rattle.std.proofs.Common.{◌≡◌, ℕ, Bool, true, false, List, length, refl, ap, subst}
+use Rattle.std.proofs.Common.{◌≡◌, ℕ, Bool, true, false, List, length, refl, subst}
 use Rattle.std.specs.Prelude.{◌||◌, if◌then◌else◌, nat_le, codes, Option, Some, None, Result, Ok, Err, ⊤}
 use Rattle.std.specs.List.{list_all}
 use Rattle.std.specs.Option.{ok_or}
@@ -27,7 +27,7 @@ use Rattle.hac_model.specs.declared.replies.Refusal.{Refusal}
 use Rattle.hac_model.specs.declared.replies.Refusal.TheVariants.{BadLine, BadName, Limit}
 use Rattle.hac_model.specs.declared.taken.Taken.{Taken}
 use Rattle.hac_model.specs.declared.taken.Taken.TheVariants.{Whole, Dropped, Short}
-use Rattle.hac_model.proofs.SpellingLemmas.{spelled-parts, taken-spells}
+use Rattle.hac_model.proofs.SpellingLemmas.{each_path-spelled, spelled-parts, taken-spells}
 use Rattle.shell_lang.specs.Laws.{IsGiven}
 
 -- some bytes are read as this path word
@@ -97,21 +97,12 @@ only_path-word : (word : Result (List ℕ) Refusal) (path : PathWord) → (word 
 only_path-word (Ok bytes) path given = (bytes, given)
 only_path-word (Err refusal) path given = absurd cc
 
-pair-same : (from to : PathWord) (paths : PathWord × PathWord) → (let read : Result (PathWord × PathWord) Refusal = Ok (from, to) in read) ≡ Ok paths → (from, to) ≡ paths
-pair-same from to paths given = cc
-
-each_path-words : (first second : Result PathWord Refusal) (paths : PathWord × PathWord) →
-    (first >>= λ from. second >>= λ to. Ok (from, to)) ≡ Ok paths → (first ≡ Ok paths.0) × (second ≡ Ok paths.1)
-each_path-words (Ok from) (Ok to) paths given = (ap (λ (p : PathWord × PathWord). Ok p.0) (pair-same from to paths given), ap (λ (p : PathWord × PathWord). Ok p.1) (pair-same from to paths given))
-each_path-words (Ok from) (Err refusal) paths given = absurd cc
-each_path-words (Err refusal) second paths given = absurd cc
-
 two_paths-words : (first second : List ℕ) (paths : PathWord × PathWord) → two_paths first second ≡ Ok paths → IsWord paths.0 × IsWord paths.1
 two_paths-words first second paths given =
     elim (is_bad first || is_bad second) as (λ b. (let read : Result (PathWord × PathWord) Refusal = if b then Err BadName else each_path first second in read) ≡ Ok paths → IsWord paths.0 × IsWord paths.1) [
       | true ↦ (λ same. absurd cc)
       | false ↦ (λ same.
-          let each = each_path-words (word_of first) (word_of second) paths same in
+          let each = each_path-spelled (word_of first) (word_of second) paths same in
           ((first, each.0), (second, each.1)))
     ] given
 

@@ -7,6 +7,7 @@ use Rattle.hac_model.specs.Query.Grammar.{Dir, Prefix, Rule, Tree, Word, and, an
 use Rattle.hac_model.specs.Query.QueryText.{is_joined, is_or}
 use Rattle.hac_model.specs.declared.terms.Term.TheVariants as term
 use Rattle.query_text.proofs.PrintLemmas.{trees}
+use Rattle.query_text.proofs.LeastLemmas.{or_joined, pair_one}
 
 abbrev pub pair : Bool → ℕ
 pair true = 1
@@ -41,17 +42,6 @@ nests (formula.Or l r) =
     ap (λ (n : ℕ). max n (meaning (trees r).joining).nesting) (nests l).whole ∙ ap (λ (n : ℕ). max (text_nesting l) n) (nests r).joining in
     record { whole = e; joining = ap (λ (n : ℕ). n + 1) e; negated = ap (λ (n : ℕ). n + 1) e }
 
-or-joined : (q : Formula (List ℕ)) → pair (is_or q) ≤ pair (is_joined q)
-or-joined (formula.Term asked) = omega arith
-or-joined (formula.Dir path) = omega arith
-or-joined (formula.Not q) = omega arith
-or-joined (formula.And l r) = omega arith
-or-joined (formula.Or l r) = omega arith
-
-pair-one : (b : Bool) → pair b ≤ 1
-pair-one true = omega arith
-pair-one false = omega arith
-
 abbrev pub Deep : (rule : Rule) → Tree rule → Type 0
 Deep query t = text_nesting (meaning t).query ≤ (meaning t).nesting
 Deep and_rule t = text_nesting (meaning t).query + pair (is_or (meaning t).query) ≤ (meaning t).nesting
@@ -66,7 +56,7 @@ deep (or t u) =
     omega (arith, h, k)
 deep (of_not t) =
     let h : text_nesting (meaning t).query + pair (is_joined (meaning t).query) ≤ (meaning t).nesting = deep t in
-    omega (arith, h, or-joined (meaning t).query)
+    omega (arith, h, or_joined (meaning t).query)
 deep (and t u) =
     let h : text_nesting (meaning t).query + pair (is_or (meaning t).query) ≤ (meaning t).nesting = deep t in
     let k : text_nesting (meaning u).query + pair (is_joined (meaning u).query) ≤ (meaning u).nesting = deep u in
@@ -75,7 +65,7 @@ deep (of_prim t) = deep t
 deep (negation t) = let h : text_nesting (meaning t).query + pair (is_joined (meaning t).query) ≤ (meaning t).nesting = deep t in omega (arith, h)
 deep (group t) =
     let h : text_nesting (meaning t).query ≤ (meaning t).nesting = deep t in
-    omega (arith, h, pair-one (is_joined (meaning t).query))
+    omega (arith, h, pair_one (is_joined (meaning t).query))
 deep (leaf (Word letters)) = omega arith
 deep (leaf (Prefix letters)) = omega arith
 deep (leaf (Dir path)) = omega arith

@@ -1,10 +1,10 @@
 -- Path words as they are printed: they are read as themselves, and stand on one line.
-use Rattle.std.proofs.Common.{◌≡◌, ℕ, zero, suc, ◌+◌, ◌-◌, true, false, Bool, cond, eqb, List, [], ◌∷◌, ◌++◌, length, get_or, refl, ap, sym, ◌∙◌, arith, codes, Ok, Err}
-use Rattle.std.specs.Prelude.{not, All, nat_le, replicate, slice_index, Result, ◌&&◌, ◌||◌, if◌then◌else◌}
+use Rattle.std.proofs.Common.{◌≡◌, ℕ, zero, suc, ◌+◌, ◌-◌, true, false, Bool, cond, eqb, List, [], ◌∷◌, ◌++◌, length, refl, ap, sym, ◌∙◌, arith, codes, Ok, Err}
+use Rattle.std.specs.Prelude.{not, nat_le, replicate, slice_index, Result, ◌&&◌, ◌||◌, if◌then◌else◌}
 use Rattle.std.specs.List.{list_all, list_any, flat_map, onto_first, position_or_len}
-use Rattle.std.proofs.lemmas.Bool.{and_parts, and_from, or_from, not_from_true, true_from_ne_false, both_ways, cond-false}
+use Rattle.std.proofs.lemmas.Bool.{and_parts, and_from, or_from, not_from_true, cond-false}
 use Rattle.std.proofs.lemmas.List.{append-nil}
-use Rattle.std.proofs.lemmas.List.Folds.{list_all_at, list_all-append}
+use Rattle.std.proofs.lemmas.List.Folds.{list_all-append}
 use Rattle.std.proofs.lemmas.List.Splits.{slice_split_none, slice_split_at}
 use Rattle.std.proofs.lemmas.Bool.Decides.{nat_tests}
 use Rattle.hac_model.specs.Bytes.{is_backslash, is_line_end, is_quote, is_slash}
@@ -17,8 +17,9 @@ use Rattle.hac_model.specs.declared.limits.TheConstants.{TARGET_LIMIT}
 use Rattle.hac_model.specs.declared.paths.PathWord.{PathWord}
 use Rattle.hac_model.specs.declared.replies.Refusal.{Refusal}
 use Rattle.hac_model.proofs.WordLemmas.{leads_down, word_of-names}
-use Rattle.hac_names.proofs.Printed.{printed_path}
+use Rattle.hac_names.proofs.Printed.{all_parts, no_slash, none_long, printed_path}
 use Rattle.shell_lang.proofs.GivenLemmas.{IsWord}
+use Rattle.hac_names.proofs.Walks.{relative-absolute}
 
 -- What is known of a word that is read.
 
@@ -35,10 +36,6 @@ before-own false true none part word own = own
 before-own false false true part word own = own
 before-own false false false part word own = own
 
-relative-own : (ps : List (List ℕ)) → (relative ps).absolute ≡ false
-relative-own [] = refl
-relative-own (part ∷ ps) = before-own _ _ _ part (relative ps) (relative-own ps)
-
 rooted-ups : (slash : Bool) (word : PathWord) → word.absolute ≡ false → (cond slash (at_root word) word).absolute ≡ true → (cond slash (at_root word) word).ups ≡ 0
 rooted-ups true word own is = refl
 rooted-ups false word own is = absurd (let clash : false ≡ true = sym own ∙ is in cc)
@@ -54,19 +51,12 @@ word-ups : (bytes : List ℕ) (word : PathWord) → word_of bytes ≡ Ok word �
 unfolding word_of
 word-ups bytes word h is =
     let same : untested_word bytes ≡ word = ok-same (untested_word bytes) word (guard (has_long_part bytes) _ _ word (guard (is_bad bytes) _ _ word h)) in
-    ap (λ (w : PathWord). w.ups) (sym same) ∙ rooted-ups (is_slash (slice_index bytes 0)) (relative (parts bytes)) (relative-own (parts bytes)) (ap (λ (w : PathWord). w.absolute) same ∙ is)
+    ap (λ (w : PathWord). w.ups) (sym same) ∙ rooted-ups (is_slash (slice_index bytes 0)) (relative (parts bytes)) (relative-absolute (parts bytes)) (ap (λ (w : PathWord). w.absolute) same ∙ is)
 
 pub word-parts : (word : PathWord) → IsWord word → WordParts word
 word-parts word (bytes, read) = record { names = word_of-names bytes word read; ups = word-ups bytes word read }
 
 -- The steps of a relative word.
-
-no_slash_byte : (b : ℕ) → is_name_byte b ≡ true → is_slash b ≡ false
-no_slash_byte b h = grind (arith, nat_tests)
-
-no_slash : (bytes : List ℕ) → is_part bytes ≡ true → All (λ b. is_slash b ≡ false) bytes
-no_slash bytes h k d within =
-    no_slash_byte (get_or bytes k d) (true_from_ne_false (is_name_byte (get_or bytes k d)) (λ bad. both_ways (is_part bytes) (list_all_at is_name_byte bytes k d within bad) h))
 
 parts-slashed : (front : List ℕ) (ps : List (List ℕ)) → is_part front ≡ true → list_all is_part ps ≡ true → parts (front ++ flat_map slashed ps) ≡ front ∷ ps
 parts-slashed front [] is all = ap parts (append-nil front) ∙ slice_split_none is_slash front (no_slash front is)
@@ -75,24 +65,12 @@ parts-slashed front (next ∷ ps) is all =
     slice_split_at is_slash front 47 (next ++ flat_map slashed ps) (no_slash front is) refl
     ∙ ap (λ (rest : List (List ℕ)). front ∷ rest) (parts-slashed next ps both.0 both.1)
 
-names-parts : (names : List (List ℕ)) → are_names names ≡ true → list_all is_part names ≡ true
-names-parts [] h = refl
-names-parts (name ∷ names) h =
-    let p = and_parts (is_name name) (are_names names) h in
-    and_from (is_part name) (list_all is_part names) (leads_down name p.0).part (names-parts names p.1)
-
 steps-parts : (n : ℕ) (names : List (List ℕ)) → are_names names ≡ true → list_all is_part (replicate n (codes "..") ++ names) ≡ true
-steps-parts zero names h = names-parts names h
+steps-parts zero names h = all_parts names h
 steps-parts (suc n) names h = steps-parts n names h
 
-names-short : (names : List (List ℕ)) → are_names names ≡ true → list_any is_long names ≡ false
-names-short [] h = refl
-names-short (name ∷ names) h =
-    let p = and_parts (is_name name) (are_names names) h in
-    or_from (is_long name) (list_any is_long names) (leads_down name p.0).short (names-short names p.1)
-
 steps-short : (n : ℕ) (names : List (List ℕ)) → are_names names ≡ true → list_any is_long (replicate n (codes "..") ++ names) ≡ false
-steps-short zero names h = names-short names h
+steps-short zero names h = none_long names h
 steps-short (suc n) names h = steps-short n names h
 
 abbrev below : ℕ → List (List ℕ) → PathWord
@@ -169,7 +147,7 @@ slashed-one_line (part ∷ ps) all =
 
 path-one_line : (names : List (List ℕ)) → are_names names ≡ true → is_one_line (path_text names) ≡ true
 path-one_line [] h = refl
-path-one_line (name ∷ names) h = slashed-one_line (name ∷ names) (names-parts (name ∷ names) h)
+path-one_line (name ∷ names) h = slashed-one_line (name ∷ names) (all_parts (name ∷ names) h)
 
 pub word-one_line : (word : PathWord) → WordParts word → is_one_line (word_text word) ≡ true
 word-one_line word known =

@@ -3,7 +3,7 @@ use Rattle.std.proofs.Common.{◌≡◌, ℕ, ◌<◌, Bool, true, false, cond, 
 use Rattle.std.specs.Prelude.{◌⊎◌, ◌==◌, ◌||◌, Option, Some, None, is_some, Result, Ok, Err, OnOk}
 use Rattle.std.specs.List.{AllByRecursion}
 use Rattle.std.proofs.Math.Bool.{or-false}
-use Rattle.std.proofs.lemmas.Bool.{ne_eqb}
+use Rattle.std.proofs.lemmas.Bool.{cases_eq, ne_eqb}
 use Rattle.std.proofs.lemmas.List.{append-nil}
 use Rattle.hac_model.specs.Query.Formula.{Formula}
 use Rattle.hac_model.specs.Tree.Facts.{edges_to, facts_at, marks_in, no_marks}
@@ -17,7 +17,6 @@ use Rattle.hac_model.proofs.ChangeLemmas.{entry_at-new, entry_at-other}
 use Rattle.hac_model.proofs.TreeLemmas.{entry_at-behind}
 use Rattle.dep_graph.specs.Graphs.{edges_of, replaced}
 use Rattle.dep_graph.specs.Graphs as graph
-use Rattle.tree_nodes.proofs.SetLemmas.{same-or-not}
 use Rattle.kept_facts.specs.AnswersKept.{list_at}
 use Rattle.layout_check.specs.Rising.{DoRise}
 use Rattle.link_kinds.specs.Kinds.{Lists, no_lists}
@@ -28,14 +27,14 @@ use Rattle.snapshots.proofs.MarkLemmas.{marks-given}
 
 -- a value that one number has already
 pub same-at : {X : Type 0} (f : ℕ → X) (number : ℕ) (x : X) → f number ≡ x → (n : ℕ) → f n ≡ cond (n == number) x (f n)
-same-at f number x is n = elim (same-or-not n number) [
+same-at f number x is n = elim (cases_eq n number) [
   | inl same ↦ ap f same ∙ is ∙ sym (ap (λ (b : Bool). cond b x (f n)) (eq-eqb n number same))
   | inr other ↦ sym (ap (λ (b : Bool). cond b x (f n)) (ne_eqb n number other))
 ]
 
 -- an entry more is looked up under its number
 entry_at-more : (before : List Entry) (e : Entry) (n : ℕ) → entry_at before e.number ≡ None → entry_at (before ++ e ∷ []) n ≡ cond (n == e.number) (Some e) (entry_at before n)
-entry_at-more before e n none = elim (same-or-not n e.number) [
+entry_at-more before e n none = elim (cases_eq n e.number) [
   | inl same ↦
       ap (λ (k : ℕ). entry_at (before ++ e ∷ []) k) same ∙ entry_at-new before e none
       ∙ sym (ap (λ (b : Bool). cond b (Some e) (entry_at before n)) (eq-eqb n e.number same))
@@ -160,11 +159,6 @@ module _ (is_dir : ℕ → Bool) (before : List Entry) (e : Entry) (new : IsNew 
       (λ n. lists n ∙ ap (λ (x : List Answer). cond (n == e.number) x (list_at old.answers n)) (sym (ap answers_in is)))
       (λ n. ap (λ (g : graph.Seen). edges_of g n) edges ∙ same-at (edges_of old.graph) e.number (edges_to is_dir e.parent (query_in e.body) (permanent_in e.body)) (edges-before is_dir before e new old after h ∙ sym (ap (λ (b : Body). edges_to is_dir e.parent (query_in b) (permanent_in b)) is)) n)
       (λ n. ap (λ (m : Known). has_sets m n) marks ∙ same-at (has_sets old.marks) e.number (is_some (query_in e.body)) (sets-before is_dir before e new old after h ∙ sym (ap (λ (b : Body). is_some (query_in b)) is)) n)
-
--- what follows where a call succeeds
-pub on_ok-all : {A E P Q : Type 0} (r : Result A E) → OnOk r P → (P → Q) → OnOk r Q
-on_ok-all (Ok value) p next = next p
-on_ok-all (Err fault) p next = tt
 
 pub on_ok-two : {A E P Q R : Type 0} (r : Result A E) → OnOk r P → OnOk r Q → (P → Q → R) → OnOk r R
 on_ok-two (Ok value) p q next = next p q

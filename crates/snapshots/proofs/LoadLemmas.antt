@@ -10,16 +10,13 @@ use Rattle.hac_model.specs.declared.states.Body.{Body}
 use Rattle.hac_model.specs.declared.states.Body.TheVariants.{File, Dir, Symlink, Semantic, Mount, Document}
 use Rattle.hac_model.specs.declared.states.Entry.{Entry}
 use Rattle.hac_model.specs.declared.states.State.{State}
-use Rattle.hac_model.proofs.FactLemmas.{edges-told}
+use Rattle.hac_model.proofs.FactLemmas.{answers-fact, edges-told, permanent-fact, prohibited-fact}
 use Rattle.kept_facts.specs.AnswersKept.{list_at}
 use Rattle.kept_state.specs.Readers.{ArePartsOf}
-use Rattle.kept_state.proofs.AnswerLemmas.{answers-fact}
-use Rattle.kept_state.proofs.KeptLemmas.{permanent-fact}
-use Rattle.hac_model.proofs.SortedLemmas.{all-weaker}
-use Rattle.kept_state.proofs.ReaderLemmas.{prohibited-fact}
 use Rattle.link_kinds.specs.Kinds.{Lists}
 use Rattle.snapshots.specs.Loading.{AreBeside, AreSoundIn, AreSoundMarks, asks}
 use Rattle.snapshots.specs.declared.loading.Beside.{Beside}
+use Rattle.hac_model.proofs.ChangeLemmas.{all-weaker}
 
 sound-in : (s : State) (body : Body) → AsksWell s body → AreSoundIn body
 sound-in s (Semantic query permanent prohibited) h = record { added = h.added.rise; removed = h.removed.rise; apart = h.apart }

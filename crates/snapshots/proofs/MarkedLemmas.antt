@@ -4,7 +4,7 @@ use Rattle.std.proofs.Common.{refl, subst, ap, sym, ◌∙◌, arith, inl, inr}
 use Rattle.std.specs.Prelude.{nat_le, filter, Option, Some, None, IsTrue}
 use Rattle.std.specs.List.{AllByRecursion}
 use Rattle.std.specs.Option.{option_map, option_map_or}
-use Rattle.std.proofs.lemmas.Bool.{cases_lt, leb-false, leb-true}
+use Rattle.std.proofs.lemmas.Bool.{cases_lt, leb-false, leb-true, or_cases}
 use Rattle.std.proofs.lemmas.Bool.Decides.{nat_tests}
 use Rattle.hac_model.specs.Tree.Links.{can_be_added, is_item}
 use Rattle.hac_model.specs.Tree.{entry_at, is_directory_at, is_linkable, permanent_in, prohibited_in}
@@ -16,7 +16,6 @@ use Rattle.hac_model.specs.declared.states.Body.{Body}
 use Rattle.hac_model.specs.declared.states.Body.TheVariants.{Semantic}
 use Rattle.hac_model.specs.declared.states.Entry.{Entry}
 use Rattle.hac_model.specs.declared.states.State.{State}
-use Rattle.hac_model.proofs.ChangeLemmas.{or-cases}
 use Rattle.hac_model.proofs.LimitLemmas.{IsWithinLimits, limits-within, most-numbers}
 use Rattle.hac_model.proofs.TreeLemmas.{entry_at-all, entry_at-next}
 use Rattle.hac_model.proofs.ValidLemmas.{directory-below}
@@ -111,7 +110,7 @@ module _ (s : State) (h : IsValid s) where
   ]
 
   added-below : (n : ℕ) → can_be_added s n ≡ true → n < s.next
-  added-below n can = elim (or-cases (is_item s n) (is_directory_at s.entries n) can) [
+  added-below n can = elim (or_cases (is_item s n) (is_directory_at s.entries n) can) [
     | inl item ↦ item-below n item
     | inr dir ↦ directory-below s n h.layout dir
   ]

@@ -15,7 +15,7 @@ use Rattle.hac_model.specs.declared.states.Body.{Body}
 use Rattle.hac_model.specs.declared.states.Body.TheVariants.{File, Dir, Symlink, Semantic, Mount, Document}
 use Rattle.hac_model.specs.declared.states.Entry.{Entry}
 use Rattle.hac_model.specs.declared.states.State.{State}
-use Rattle.hac_model.proofs.AlikeLemmas.{entry_at-bare, text_at-bare}
+use Rattle.hac_model.proofs.AlikeLemmas.{bare-dirty, bare-document, entry_at-bare, text_at-bare}
 use Rattle.hac_model.proofs.TreeLemmas.{entry_at-number}
 use Rattle.file_tree.specs.Answers.{entry_kind, entry_kind_at, is_dirty_at}
 use Rattle.file_tree.specs.declared.tree.EntryKind.{EntryKind}
@@ -180,20 +180,10 @@ kind-bare (Semantic query permanent prohibited) = refl
 kind-bare (Mount space answers) = refl
 kind-bare other = refl
 
-dirty-bare : (body : Body) → is_dirty (bare_body body) ≡ is_dirty body
-dirty-bare (Semantic query permanent prohibited) = refl
-dirty-bare (Mount space answers) = refl
-dirty-bare other = refl
-
 space-bare : (body : Body) → space_in (bare_body body) ≡ space_in body
 space-bare (Semantic query permanent prohibited) = refl
 space-bare (Mount space answers) = refl
 space-bare other = refl
-
-document-bare : (body : Body) → is_document (bare_body body) ≡ is_document body
-document-bare (Semantic query permanent prohibited) = refl
-document-bare (Mount space answers) = refl
-document-bare other = refl
 
 -- what is in a directory is in order with its marks and answers and without
 order-bare : (es : List Entry) → in_order (map (edited bare_body) es) ≡ map (edited bare_body) (in_order es)
@@ -235,7 +225,7 @@ documents-bare s dir =
     (ap in_order (filter-bare (λ e. e.parent == dir) (λ e. refl) s.entries)
     ∙ order-bare (filter (λ e. e.parent == dir) s.entries))
     ∙ ap (λ (es : List Entry). map listed_document es)
-    (filter-bare (λ child. is_document child.body) (λ e. document-bare e.body) (children s dir))
+    (filter-bare (λ child. is_document child.body) (λ e. bare-document e.body) (children s dir))
     ∙ listed-bare (filter (λ child. is_document child.body) (children s dir))
 
 module _ (s t : State) (bares : bare s ≡ bare t) where
@@ -257,7 +247,7 @@ module _ (s t : State) (bares : bare s ≡ bare t) where
   same-text n = alike s t bares (λ s. option_and_then text_in (body_at s.entries n)) (λ s. text_at-bare s n)
 
   pub same-dirty : (n : ℕ) → is_dirty_at s.entries n ≡ is_dirty_at t.entries n
-  same-dirty n = part (λ o. option_map_or is_dirty o false) dirty-bare n
+  same-dirty n = part (λ o. option_map_or is_dirty o false) bare-dirty n
 
   pub same-space : (n : ℕ) → space_at s n ≡ space_at t n
   same-space n = part (λ o. option_and_then space_in o) space-bare n

@@ -2,7 +2,6 @@
 use Rattle.std.proofs.Common.{◌≡◌, ℕ, ◌<◌, Bool, true, false, cond, List, [], ◌∷◌, ◌++◌, map, option_to_list}
 use Rattle.std.proofs.Common.{refl, ap, sym, ◌∙◌, arith, eq-eqb, ne_eqb, inl, inr}
 use Rattle.std.specs.Prelude.{◌⊎◌, ◌==◌, IsTrue, not, filter, flat_map, Option, Some, None}
-use Rattle.std.specs.Option.{option_map, option_map_or}
 use Rattle.std.proofs.lemmas.Bool.{cases_eq}
 use Rattle.std.proofs.lemmas.List.Elements.{filter-append}
 use Rattle.hac_model.specs.Payload.States.{by_number, document_entry, entries_in, listed_document, restored}
@@ -19,6 +18,7 @@ use Rattle.hac_model.proofs.ChangeLemmas.{numbers-filter}
 use Rattle.hac_model.proofs.TreeLemmas.{entry_at-all, entry_at-behind, entry_at-low}
 use Rattle.snapshots.proofs.OrderLemmas.{From, InOrder, alike, by-in-order, by-numbered, from-lower, numbered}
 use Rattle.snapshots.proofs.OrderLemmas.{numbered-other, swapped}
+use Rattle.hac_model.proofs.MountLayoutLemmas.{document-is, mount-found as mount-there}
 
 -- ---- lists
 
@@ -146,24 +146,6 @@ mount-plain (Semantic query permanent prohibited) h = absurd cc
 mount-plain (Mount space answers) h = refl
 mount-plain Document h = absurd cc
 
-document-body : (body : Body) → is_document body ≡ true → body ≡ Document
-document-body (File text dirty shown) h = absurd cc
-document-body Dir h = absurd cc
-document-body (Symlink target) h = absurd cc
-document-body (Semantic query permanent prohibited) h = absurd cc
-document-body (Mount space answers) h = absurd cc
-document-body Document h = refl
-
-mount-there : (es : List Entry) (n : ℕ) → is_mount_at es n ≡ true
-    → (e : Entry) × (entry_at es n ≡ Some e) × (is_mount e.body ≡ true)
-mount-there es n h = one (entry_at es n) refl h
-  where
-    one : (found : Option Entry) → entry_at es n ≡ found
-        → option_map_or is_mount (option_map (λ (e : Entry). e.body) found) false ≡ true
-        → (e : Entry) × (entry_at es n ≡ Some e) × (is_mount e.body ≡ true)
-    one None is h = absurd cc
-    one (Some e) is h = (e, is, h)
-
 -- a document as it is told by its mount's list
 document-told : (mount : ℕ) (d : Entry) → is_document d.body ≡ true
     → documents mount (filter (λ e. e.parent == mount) (d ∷ [])) ≡ cond (mount == d.parent) (d ∷ []) []
@@ -172,7 +154,7 @@ document-told mount d kind = one (cases_eq mount d.parent)
     one : (mount ≡ d.parent) ⊎ (mount ≡ d.parent → ⊥)
         → documents mount (filter (λ e. e.parent == mount) (d ∷ [])) ≡ cond (mount == d.parent) (d ∷ []) []
     one (inl same) =
-        let body : Document ≡ d.body = sym (document-body d.body kind) in
+        let body : Document ≡ d.body = sym (document-is d.body kind) in
         let own : document_entry mount (listed_document d) ≡ d =
         λ i. record { number = d.number; parent = same i; name = d.name; body = body i } in
         ap (λ (b : Bool). documents mount (cond b (d ∷ []) [])) (eq-eqb d.parent mount (sym same))

@@ -13,8 +13,8 @@ use Rattle.hac_model.specs.declared.states.State.{State}
 use Rattle.hac_model.proofs.TreeLemmas.{all-entries, entry_at-number}
 use Rattle.file_tree.specs.Answers.{numbers_of}
 use Rattle.file_tree.proofs.OrderLemmas.{children-found}
-use Rattle.hac_model.proofs.SortedLemmas.{all-weaker}
 use Rattle.snapshots.specs.Taking.{document_at, documents_of, stored_at}
+use Rattle.hac_model.proofs.ChangeLemmas.{all-weaker}
 
 -- ---- all entries
 

@@ -4,11 +4,10 @@ use Rattle.std.specs.Prelude.{nat_le}
 use Rattle.std.specs.List.{list_all}
 use Rattle.std.specs.Ordering.{is_le, nat_cmp}
 use Rattle.std.proofs.lemmas.Bool.{and_from, and_parts, cases_lt, leb-true, le-leb}
-use Rattle.std.proofs.lemmas.Bool.Decides.{nat_tests}
 use Rattle.hac_model.specs.Tree.Listing.{is_before}
 use Rattle.hac_model.specs.Tree.Mounting.{do_names_rise, do_rise_from}
-use Rattle.hac_model.proofs.NameOrderLemmas.{IsChain, IsChainTo, chain-rises}
-use Rattle.sorted_lists.proofs.OrderLemmas.{before-trans}
+use Rattle.hac_model.proofs.NameOrderLemmas.{before-trans, chain-rises, IsChain, IsChainTo}
+use Rattle.hac_model.proofs.SortedLemmas.{le-told, not-le-told}
 
 -- Names.
 
@@ -98,12 +97,6 @@ module _ (names : List (List ℕ)) (i : ℕ) (x y : List ℕ) (some : 1 ≤ i) (
 
   pub chain-breaks : is_before x y ≡ false → do_names_rise names ≡ false
   chain-breaks out = rises-not names (i - 1) [] (omega arith) (neighbours (i - 1) [] (omega arith) ∙ out)
-
-le-told : (a b : ℕ) → is_le (nat_cmp a b) ≡ true → a ≤ b
-le-told a b h = grind (arith, nat_tests)
-
-not-le-told : (a b : ℕ) → is_le (nat_cmp a b) ≡ false → b < a
-not-le-told a b h = grind (arith, nat_tests)
 
 module _ (numbers : List ℕ) (i x y : ℕ) (some : 1 ≤ i) (inside : i < length numbers) (left : x ≡ get_or numbers (i - 1) x) (right : y ≡ get_or numbers i y) where
   pub row-more : is_le (nat_cmp y x) ≡ false → IsRowTo numbers i → IsRowTo numbers (i + 1)

@@ -1,30 +1,23 @@
 -- Numbers and terms that rise, and what is tested of each of several lists.
-use Rattle.std.proofs.Common.{◌≡◌, ℕ, ◌+◌, Bool, true, false, List, [], ◌∷◌, refl, ap, ◌∙◌}
-use Rattle.std.specs.Prelude.{◌&&◌, Option, Some, nat_le, nat_lt}
+use Rattle.std.proofs.Common.{◌≡◌, ℕ, Bool, true, false, List, [], ◌∷◌, refl, ap, ◌∙◌}
+use Rattle.std.specs.Prelude.{◌&&◌, Option, Some}
 use Rattle.std.specs.List.{flat_map, list_all}
 use Rattle.std.specs.Option.{option_map_or}
-use Rattle.std.proofs.lemmas.Bool.{and_parts, leb-true}
-use Rattle.std.proofs.lemmas.Bool.Decides.{Decides-ltb}
+use Rattle.std.proofs.lemmas.Bool.{and_parts}
 use Rattle.std.proofs.lemmas.List.Folds.{list_all-append}
 use Rattle.hac_model.specs.Query.Terms.{is_term_before}
-use Rattle.hac_model.specs.Tree.Valid.{NumbersRise, RiseFrom, TermsRise}
+use Rattle.hac_model.specs.Tree.Valid.{RiseFrom, TermsRise}
 use Rattle.hac_model.specs.Tree.ValidTest.{are_marks, do_numbers_rise, do_rise_from, do_terms_rise, is_layout}
 use Rattle.hac_model.specs.declared.states.Answer.{Answer}
-use Rattle.hac_model.specs.declared.states.Entry.{Entry}
 use Rattle.hac_model.specs.declared.states.State.{State}
 use Rattle.hac_model.specs.declared.terms.Term.{Term}
 use Rattle.layout_check.specs.Rising.{DoRise}
-use Rattle.layout_check.proofs.RiseLemmas.{rises}
-
-pub rise_from : (bound : ℕ) (ns : List ℕ) → do_rise_from bound ns ≡ true → RiseFrom bound ns
-rise_from bound [] h = tt
-rise_from bound (n ∷ ns) h =
-    let parts = and_parts (nat_le bound n) (do_rise_from (n + 1) ns) h in
-    (leb-true bound n parts.0, rise_from (n + 1) ns parts.1)
+use Rattle.layout_check.proofs.RiseLemmas.{rises, tested}
+use Rattle.hac_model.proofs.MountKeptLemmas.{rise-told}
 
 -- marks that are sound rise
 pub marks_rise : (test : ℕ → Bool) (ns : List ℕ) → are_marks test ns ≡ true → RiseFrom 0 ns
-marks_rise test ns h = rise_from 0 ns (and_parts (do_rise_from 0 ns) (list_all (λ n. test n) ns) h).0
+marks_rise test ns h = rise-told 0 ns (and_parts (do_rise_from 0 ns) (list_all (λ n. test n) ns) h).0
 
 pub terms_rise : (last : Option Term) (answers : List Answer) → do_terms_rise last answers ≡ true
     → TermsRise last answers
@@ -34,13 +27,6 @@ terms_rise last (answer ∷ answers) h =
     (do_terms_rise (Some answer.term) answers) h in
     (parts.0, terms_rise (Some answer.term) answers parts.1)
 
-numbers_rise : (above : ℕ) (es : List Entry) (below : ℕ) → do_numbers_rise above es below ≡ true
-    → NumbersRise above es below
-numbers_rise above [] below h = (Decides-ltb above below).0 h
-numbers_rise above (e ∷ es) below h =
-    let parts = and_parts (nat_lt above e.number) (do_numbers_rise e.number es below) h in
-    ((Decides-ltb above e.number).0 parts.0, numbers_rise e.number es below parts.1)
-
 first-part : (a b c d e f : Bool) → (a && b && c && d && e && f) ≡ true → a ≡ true
 first-part true b c d e f h = refl
 first-part false b c d e f h = h
@@ -48,7 +34,7 @@ first-part false b c d e f h = h
 pub layout_rises : (s : State) → is_layout s ≡ true → DoRise s.entries
 unfolding is_layout
 layout_rises s h = rises 0 s.entries s.next
-    (numbers_rise 0 s.entries s.next (first-part (do_numbers_rise 0 s.entries s.next) _ _ _ _ _ h))
+    (tested 0 s.entries s.next (first-part (do_numbers_rise 0 s.entries s.next) _ _ _ _ _ h))
 
 pub all_flat : {X Y : Type 0} (test : Y → Bool) (f : X → List Y) (xs : List X)
     → list_all test (flat_map f xs) ≡ list_all (λ x. list_all test (f x)) xs

@@ -1,13 +1,13 @@
 -- How many links of each kind there are, by the lists that were found.
-use Rattle.std.proofs.Common.{◌≡◌, ℕ, ◌-◌, ◌^◌, ◌<◌, ◌≤◌, Bool, true, false, List, [], length, refl, ap, sym, subst, ◌∙◌, arith, inl, inr}
+use Rattle.std.proofs.Common.{◌≡◌, ℕ, ◌-◌, ◌^◌, ◌<◌, ◌≤◌, Bool, true, List, [], length, refl, ap, sym, subst, ◌∙◌, arith, inl, inr}
 use Rattle.std.specs.Prelude.{Option, Some, None, sum_by}
 use Rattle.std.specs.Option.{option_map, option_map_or}
-use Rattle.std.proofs.lemmas.Bool.{cases_lt}
+use Rattle.std.proofs.lemmas.Bool.{or_cases}
 use Rattle.std.proofs.lemmas.Bool.Decides.{nat_tests}
 use Rattle.hac_model.specs.Tree.Limits.{counts}
 use Rattle.hac_model.specs.Tree.Links.{can_be_added, is_item, over_directories, permanent_at, permanent_count, prohibited_at, prohibited_count, transient_count}
 use Rattle.hac_model.specs.Run.Play.{counts_line}
-use Rattle.hac_model.specs.Tree.{entry_at, is_directory_at, is_linkable, permanent_in, prohibited_in}
+use Rattle.hac_model.specs.Tree.{entry_at, is_directory_at, permanent_in, prohibited_in}
 use Rattle.hac_model.specs.Tree.Valid.{AreMarks, AsksWell, IsLayout, IsValid}
 use Rattle.hac_model.specs.declared.counts.Counts.{Counts}
 use Rattle.hac_model.specs.declared.limits.TheConstants.{NUMBERS_LIMIT}
@@ -16,10 +16,9 @@ use Rattle.hac_model.specs.declared.states.Body.{Body}
 use Rattle.hac_model.specs.declared.states.Body.TheVariants.{Semantic}
 use Rattle.hac_model.specs.declared.states.Entry.{Entry}
 use Rattle.hac_model.specs.declared.states.State.{State}
-use Rattle.hac_model.proofs.ChangeLemmas.{or-cases}
 use Rattle.hac_model.proofs.LimitLemmas.{limits-within, most-numbers}
 use Rattle.hac_model.proofs.ValidLemmas.{directory-below}
-use Rattle.hac_model.proofs.TreeLemmas.{entry_at-all, entry_at-next}
+use Rattle.hac_model.proofs.TreeLemmas.{entry_at-all}
 use Rattle.file_tree.specs.Answers.{numbers_of}
 use Rattle.link_kinds.specs.Kinds.{items_of}
 use Rattle.link_kinds.specs.Seen.{Known, lists_in}
@@ -28,15 +27,9 @@ use Rattle.hac_model.specs.Run.Showing.{line_of_counts}
 use Rattle.tree_answers.proofs.PlainLemmas.{plain-counted}
 use Rattle.tree_answers.proofs.RangeLemmas.{entries-sum}
 use Rattle.tree_answers.proofs.SumLemmas.{sum-small}
+use Rattle.kept_links.proofs.ItemLemmas.{item-below as file-below}
 
 -- Numbers of a valid state.
-
--- an item has a number below the next
-pub file-below : (s : State) (n : ℕ) → IsLayout s → is_item s n ≡ true → n < s.next
-file-below s n h file = elim (cases_lt n s.next) as (λ _. n < s.next) [
-  | inl less ↦ less
-  | inr high ↦ (let none : false ≡ true = ap (λ (o : Option Entry). option_map_or is_linkable (option_map (λ (e : Entry). e.body) o) false) (sym (entry_at-next 0 s.entries s.next n h.numbers high)) ∙ file in absurd cc)
-]
 
 pub next-few : (s : State) → IsLayout s → s.next ≤ NUMBERS_LIMIT
 next-few s h = let most = most-numbers s (limits-within s h.limits) in grind (arith, nat_tests, most)
@@ -48,7 +41,7 @@ module _ (s : State) (h : IsValid s) where
   item-below n is = file-below s n h.layout is
 
   pub markable-below : (n : ℕ) → can_be_added s n ≡ true → n < s.next
-  markable-below n is = elim (or-cases (is_item s n) (is_directory_at s.entries n) is) [ inl item ↦ item-below n item | inr dir ↦ directory-below s n h.layout dir ]
+  markable-below n is = elim (or_cases (is_item s n) (is_directory_at s.entries n) is) [ inl item ↦ item-below n item | inr dir ↦ directory-below s n h.layout dir ]
 
   -- what is marked in a directory are marks: those of a semantic one, and none of any other
   pub are-marks : (dir : ℕ) → AreMarks (can_be_added s) (permanent_at s dir) × AreMarks (is_item s) (prohibited_at s dir)

@@ -1,13 +1,13 @@
 -- Numbers of documents, found by their names.
 use Rattle.std.proofs.Common.{◌≡◌, ℕ, zero, suc, ◌+◌, ◌<◌, ◌≤◌, Bool, true, false, cond, List, [], ◌∷◌, ◌++◌, length, map, get_or, drop, subst, refl, ap, sym, ◌∙◌, arith, eq-eqb, inl, inr, Ordering, Less, Greater}
 use Rattle.std.specs.Prelude.{◌^◌, ◌==◌, ◌&&◌, ◌||◌, if◌then◌else◌, filter, nat_lt, not, Option, Some, None, IfOk, IsTrue, Result, Ok, Err, is_none}
-use Rattle.std.specs.Cmp.Lexicographic.{nat_list_cmp_total, nat_list_eq_equiv, slice_cmp}
+use Rattle.std.specs.Cmp.Lexicographic.{nat_list_cmp_total, slice_cmp}
 use Rattle.std.specs.List.{AllByRecursion, insert, list_all}
 use Rattle.std.specs.List.Sorted.{IsBinarySearchResult, IsPartitionPoint, IsSortedBy, IsStrictlySortedBy}
 use Rattle.std.specs.Option.{option_map, option_map_or, unwrap_or}
 use Rattle.std.specs.Ordering.{is_eq, is_lt, nat_cmp, ordering_reverse}
 use Rattle.std.specs.Str.{bytes_eq}
-use Rattle.std.proofs.lemmas.Bool.{and_parts, cases_lt, eqb-false, le-ltb, lt-ltb, ltb-false, ltb-true, ne_eqb, not-true}
+use Rattle.std.proofs.lemmas.Bool.{and_parts, and_right, cases_lt, eqb-false, le-ltb, lt-ltb, ltb-false, ltb-true, ne_eqb, not-true}
 use Rattle.std.proofs.lemmas.Bool.Decides.{nat_tests}
 use Rattle.std.proofs.lemmas.List.{drop_all, drop_more}
 use Rattle.std.proofs.lemmas.List.Sorted.{searchable_from_sorted}
@@ -23,7 +23,7 @@ use Rattle.hac_model.specs.Tree.Names.{is_name}
 use Rattle.hac_model.specs.Tree.{child, entry_at, is_directory_at, is_document, is_document_at, is_holder_at, is_mount_at}
 use Rattle.hac_model.specs.Tree.Valid.{IsLayout, NamesDiffer, NumbersRise, RiseFrom, is_in_place}
 use Rattle.hac_model.specs.declared.states.Body.{Body}
-use Rattle.hac_model.specs.declared.states.Body.TheVariants.{Mount, Semantic}
+use Rattle.hac_model.specs.declared.states.Body.TheVariants.{Mount}
 use Rattle.hac_model.specs.declared.states.Entry.{Entry}
 use Rattle.hac_model.specs.declared.states.State.{State}
 use Rattle.hac_model.proofs.BareLemmas.{mounted-bare, synced-bare}
@@ -36,6 +36,8 @@ use Rattle.hac_model.proofs.SuchLemmas.{such-document}
 use Rattle.hac_model.proofs.TreeLemmas.{child-entry, entry_at-above, entry_at-all, entry_at-behind, entry_at-first, place-directory, same_place}
 use Rattle.hac_model.proofs.ValidLemmas.{directory-below}
 use Rattle.tree_answers.specs.Numbering.{document_with, listed_with, numbered_by, numbers_of, put_found, put_number}
+use Rattle.hac_model.proofs.NameOrderLemmas.{same-turned}
+use Rattle.hac_model.proofs.AlikeLemmas.{bare-document}
 
 -- A number among numbers that rise.
 
@@ -43,13 +45,6 @@ above-bound : (bound i : ℕ) (ns : List ℕ) → RiseFrom bound ns → i < leng
 above-bound bound i [] h inside = absurd (omega arith)
 above-bound bound zero (n ∷ ns) h inside = h.0
 above-bound bound (suc i) (n ∷ ns) h inside = let first : bound ≤ n = h.0 in let more : n + 1 ≤ get_or ns i 0 = above-bound (n + 1) i ns h.1 (omega arith) in omega arith
-
-pub rise-order : (bound : ℕ) (ns : List ℕ) → RiseFrom bound ns → (i j : ℕ) → i ≤ j → j < length ns → get_or ns i 0 ≤ get_or ns j 0
-rise-order bound [] h i j low inside = absurd (omega arith)
-rise-order bound (n ∷ ns) h zero zero low inside = omega arith
-rise-order bound (n ∷ ns) h zero (suc j) low inside = let more : n + 1 ≤ get_or ns j 0 = above-bound (n + 1) j ns h.1 (omega arith) in omega arith
-rise-order bound (n ∷ ns) h (suc i) zero low inside = absurd (omega arith)
-rise-order bound (n ∷ ns) h (suc i) (suc j) low inside = rise-order (n + 1) ns h.1 i j (omega arith) (omega arith)
 
 -- where it is already, nothing changes
 pub put-there : (bound n i : ℕ) (ns : List ℕ) → RiseFrom bound ns → i < length ns → get_or ns i 0 ≡ n → put_number n ns ≡ ns
@@ -140,16 +135,12 @@ document-above above (e ∷ es) next m k x h found =
       | false ↦ (λ found. let later = document-above e.number es next m k x h.1 found in omega (arith, later, more))
     ] found
 
-and-no : (a b : Bool) → b ≡ false → (a && b) ≡ false
-and-no true b h = h
-and-no false b h = refl
-
 -- where there is nothing of the name, there is no document
 pub document-none : (es : List Entry) (m : ℕ) (x : List ℕ) → child es m x ≡ None → document_with es m x ≡ None
 document-none [] m x none = refl
 document-none (e ∷ es) m x none =
     let parts = first_apart (e.parent == m && bytes_eq e.name x) e.number (child es m x) none in
-    ap (λ (b : Bool). cond b (Some e.number) (document_with es m x)) (and-no (is_document e.body) (e.parent == m && bytes_eq e.name x) parts.0) ∙ document-none es m x parts.1
+    ap (λ (b : Bool). cond b (Some e.number) (document_with es m x)) (and_right (is_document e.body) (e.parent == m && bytes_eq e.name x) parts.0) ∙ document-none es m x parts.1
 
 -- what is there is a document or not
 pub document-child : (above : ℕ) (es : List Entry) (next m k : ℕ) (x : List ℕ) → NumbersRise above es next → NamesDiffer es → child es m x ≡ Some k → document_with es m x ≡ cond (is_document_at es k) (Some k) None
@@ -255,9 +246,6 @@ module _ (above : ℕ) (es : List Entry) (next m : ℕ) (find : List ℕ → Opt
 apart-by : (o : Ordering) → is_eq o ≡ false → (x y : List ℕ) → slice_cmp nat_cmp x y ≡ o → bytes_eq x y ≡ false
 apart-by o other x y is = sym (is_eq-slice_cmp x y) ∙ ap is_eq is ∙ other
 
-turned : (x y : List ℕ) → bytes_eq x y ≡ bytes_eq y x
-turned x y = nat_list_eq_equiv.symm x y
-
 listed-at : (list : List (List ℕ)) (ns : List ℕ) (x : List ℕ) (i n : ℕ) → IsStrictlySortedBy (slice_cmp nat_cmp) list → i < length list → length ns ≡ length list → get_or list i [] ≡ x → n ≡ get_or ns i n → listed_with list ns x ≡ Some n
 unfolding IsStrictlySortedBy
 listed-at [] ns x i n rise inside even is at = absurd (omega arith)
@@ -320,7 +308,7 @@ listed-numbers es m next (y ∷ ys) x = elim (bytes_eq y x) as (λ b. bytes_eq y
       ap (λ (o : Option ℕ). first_found (cond (is_among (y ∷ ys) x) o None) (rank_from next (filter (λ y. is_none (child es m y)) (y ∷ ys)) x)) (ap (child es m) (sym ((bytes_eq-Decides y x).0 here)))
       ∙ own here (child es m y))
   | false ↦ (λ other.
-      ap (λ (b : Bool). first_found (cond (b || is_among ys x) (child es m x) None) (rank_from next (filter (λ y. is_none (child es m y)) (y ∷ ys)) x)) (turned x y ∙ other)
+      ap (λ (b : Bool). first_found (cond (b || is_among ys x) (child es m x) None) (rank_from next (filter (λ y. is_none (child es m y)) (y ∷ ys)) x)) (same-turned x y ∙ other)
       ∙ ap (first_found (cond (is_among ys x) (child es m x) None)) (passed other (child es m y))
       ∙ listed-numbers es m (cond (is_none (child es m y)) (next + 1) next) ys x
       ∙ sym (ap (λ (b : Bool). cond b (Some (unwrap_or (child es m y) next)) (listed_with ys (numbers_of es m (cond (is_none (child es m y)) (next + 1) next) ys) x)) other))
@@ -331,11 +319,11 @@ listed-numbers es m next (y ∷ ys) x = elim (bytes_eq y x) as (λ b. bytes_eq y
 
     own : bytes_eq y x ≡ true → (o : Option ℕ) → first_found (cond (is_among (y ∷ ys) x) o None) (rank_from next (cond (is_none o) (y ∷ left) left) x) ≡ cond (bytes_eq y x) (Some (unwrap_or o next)) (listed_with ys (numbers_of es m (cond (is_none o) (next + 1) next) ys) x)
     own here None =
-        ap (λ (b : Bool). first_found (cond (b || is_among ys x) None None) (cond (bytes_eq y x) (Some next) (rank_from (next + 1) left x))) (turned x y ∙ here)
+        ap (λ (b : Bool). first_found (cond (b || is_among ys x) None None) (cond (bytes_eq y x) (Some next) (rank_from (next + 1) left x))) (same-turned x y ∙ here)
         ∙ ap (λ (b : Bool). cond b (Some next) (rank_from (next + 1) left x)) here
         ∙ sym (ap (λ (b : Bool). cond b (Some next) (listed_with ys (numbers_of es m (next + 1) ys) x)) here)
     own here (Some k) =
-        ap (λ (b : Bool). first_found (cond (b || is_among ys x) (Some k) None) (rank_from next left x)) (turned x y ∙ here)
+        ap (λ (b : Bool). first_found (cond (b || is_among ys x) (Some k) None) (rank_from next left x)) (same-turned x y ∙ here)
         ∙ sym (ap (λ (b : Bool). cond b (Some k) (listed_with ys (numbers_of es m next ys) x)) here)
 
     passed : bytes_eq y x ≡ false → (o : Option ℕ) → rank_from next (cond (is_none o) (y ∷ left) left) x ≡ rank_from (cond (is_none o) (next + 1) next) left x
@@ -358,8 +346,8 @@ come-differ next m (y ∷ ys) rise = (behind (next + 1) ys rise.0, come-differ (
     behind : (next : ℕ) (others : List (List ℕ)) → AllByRecursion (λ other. slice_cmp nat_cmp y other ≡ Less) others → child (documents_from next m others) m y ≡ None
     behind next [] h = refl
     behind next (other ∷ others) h =
-        ap (λ (b : Bool). cond ((m == m) && b) (Some next) (child (documents_from (next + 1) m others) m y)) (turned other y ∙ apart-by Less refl y other h.0)
-        ∙ ap (λ (b : Bool). cond b (Some next) (child (documents_from (next + 1) m others) m y)) (and-no (m == m) false refl)
+        ap (λ (b : Bool). cond ((m == m) && b) (Some next) (child (documents_from (next + 1) m others) m y)) (same-turned other y ∙ apart-by Less refl y other h.0)
+        ∙ ap (λ (b : Bool). cond b (Some next) (child (documents_from (next + 1) m others) m y)) (and_right (m == m) false refl)
         ∙ behind (next + 1) others h.1
 
 document-joined : (es fs : List Entry) (m : ℕ) (x : List ℕ) → document_with (es ++ fs) m x ≡ first_found (document_with es m x) (document_with fs m x)
@@ -462,7 +450,7 @@ mounted-numbered s dir name space list names h rise =
     (numbers-documents 0 [] (s.next + 1) s.next list (omega arith)) (come-differ (s.next + 1) s.next list rise.rising) finds names
     ∙ sym (named-behind (s.entries ++ mount ∷ []) come s.next names
     (all-joined (λ e. (is_document e.body && e.parent == s.next) ≡ false) s.entries (mount ∷ [])
-    (all-weaker (λ e. (e.parent == s.next) ≡ false) (λ e. (is_document e.body && e.parent == s.next) ≡ false) s.entries (λ e other. and-no (is_document e.body) (e.parent == s.next) other) (none-next s h)) (refl, tt)))
+    (all-weaker (λ e. (e.parent == s.next) ≡ false) (λ e. (is_document e.body && e.parent == s.next) ≡ false) s.entries (λ e other. and_right (is_document e.body) (e.parent == s.next) other) (none-next s h)) (refl, tt)))
   where
     come : List Entry
     come = documents_from (s.next + 1) s.next list
@@ -528,11 +516,6 @@ synced-numbered s m list names h there rise =
         ∙ (λ i. first_found ((document-mapped forgets left m x (such-document (is_such_at (is_gone m list) s.entries)) ∙ document-left s.entries m list x) i) (document-come s.next m (fresh s m list) x i)))
 
 -- The bare tree is asked as well.
-
-bare-document : (body : Body) → is_document (bare_body body) ≡ is_document body
-bare-document (Semantic query permanent prohibited) = refl
-bare-document (Mount space answers) = refl
-bare-document other = refl
 
 pub named-bare : (s : State) (mount : ℕ) (names : List (List ℕ)) → documents_named s mount names ≡ documents_named (bare s) mount names
 named-bare s mount names = each s.entries

@@ -1,17 +1,15 @@
 -- Numbers one after the other, and those of entries among them.
-use Rattle.std.proofs.Common.{◌≡◌, ℕ, zero, suc, ◌+◌, ◌<◌, ◌≤◌, Bool, true, false, cond, List, [], ◌∷◌, ◌++◌, refl, ap, sym, ◌∙◌, arith, eq-eqb, inl, inr}
-use Rattle.std.specs.Prelude.{◌==◌, ◌&&◌, ◌||◌, Option, Some, None, filter, is_some, sum_by}
+use Rattle.std.proofs.Common.{◌≡◌, ℕ, ◌+◌, ◌<◌, Bool, true, false, cond, List, [], ◌∷◌, ◌++◌, refl, ap, sym, ◌∙◌, arith, inl, inr}
+use Rattle.std.specs.Prelude.{◌&&◌, Option, Some, None, filter, is_some, sum_by}
 use Rattle.std.specs.List.{flat_map, range_with_len}
-use Rattle.std.proofs.lemmas.Bool.{cases_eq}
 use Rattle.std.proofs.lemmas.Grind.{flat_map-append}
 use Rattle.std.proofs.lemmas.List.{append-nil}
 use Rattle.std.proofs.lemmas.List.Concat.{flat_map-cons}
 use Rattle.std.proofs.lemmas.List.Sums.{sum_by-cons}
 use Rattle.hac_model.specs.Tree.Links.{has}
 use Rattle.hac_model.specs.Tree.{entry_at}
-use Rattle.hac_model.specs.Tree.Valid.{NumbersRise, RiseFrom}
+use Rattle.hac_model.specs.Tree.Valid.{NumbersRise}
 use Rattle.hac_model.specs.declared.states.Entry.{Entry}
-use Rattle.hac_model.proofs.ChangeLemmas.{or-right}
 use Rattle.hac_model.proofs.LiveLemmas.{IsEntry}
 use Rattle.hac_model.proofs.MarkLemmas.{has-filter, rise-filter}
 use Rattle.hac_model.proofs.RangeLemmas.{range-has, range-next, range-rises}

@@ -1,5 +1,5 @@
 -- Which directories refer to another, by a graph and by the entries.
-use Rattle.std.proofs.Common.{◌≡◌, ℕ, suc, Bool, true, false, cond, List, [], ◌∷◌, ◌++◌, length, map, filter, eqb, refl, ap, sym, ◌∙◌, arith, inl, inr, eq-eqb, ne_eqb, eqb-true}
+use Rattle.std.proofs.Common.{◌≡◌, ℕ, suc, Bool, true, false, cond, List, [], ◌∷◌, ◌++◌, length, map, filter, eqb, refl, ap, sym, ◌∙◌, arith, inl, inr, ne_eqb, eqb-true}
 use Rattle.std.specs.Prelude.{◌==◌, ◌&&◌, ◌||◌, ◌↔◌, not, drop, Option, Some, None, IsPermutation, IsSorted, option_and_then}
 use Rattle.std.specs.List.{AllByRecursion, IsDistinct, list_all}
 use Rattle.std.specs.Option.{option_map, option_map_or}
@@ -23,22 +23,15 @@ use Rattle.hac_model.proofs.MarkLemmas.{has-filter}
 use Rattle.hac_model.proofs.TreeLemmas.{entry_at-low}
 use Rattle.file_tree.specs.Answers.{numbers_of}
 use Rattle.file_tree.proofs.LiveLemmas.{numbers-rise}
-use Rattle.file_tree.proofs.RisingLemmas.{eqb-turned, has-first, rising-one, steps-rise}
+use Rattle.file_tree.proofs.RisingLemmas.{has-first, rising-one}
 use Rattle.dep_graph.specs.Graphs as graph
 use Rattle.dep_graph.specs.Graphs.{referred_by}
 use Rattle.dep_graph.specs.Searches.{EachOnce}
 use Rattle.kept_state.specs.Readers.{AreEdgesOf}
+use Rattle.hac_model.proofs.SortedLemmas.{steps-rise}
+use Rattle.hac_model.proofs.AmongLemmas.{among-has, eqb-turned, has-among}
 
 -- Who is among numbers.
-
-has-among : (ns : List ℕ) (n : ℕ) → has ns n ≡ true → Among ns n
-has-among [] n h = absurd cc
-has-among (m ∷ ns) n h = elim (m == n) as (λ b. (m == n) ≡ b → (b || has ns n) ≡ true → Among (m ∷ ns) n) [ true ↦ (λ same _. inl (eqb-true m n same)) | false ↦ (λ _ more. inr (has-among ns n more)) ] refl h
-
-among-has : (ns : List ℕ) (n : ℕ) → Among ns n → has ns n ≡ true
-among-has [] n h = absurd h
-among-has (m ∷ ns) n (inl same) = ap (λ (b : Bool). b || has ns n) (eq-eqb m n same)
-among-has (m ∷ ns) n (inr more) = elim (m == n) as (λ b. (b || has ns n) ≡ true) [ true ↦ refl | false ↦ among-has ns n more ]
 
 has-same : (ms ns : List ℕ) (m n : ℕ) → Among ms m ↔ Among ns n → has ms m ≡ has ns n
 has-same ms ns m n same = by_tests (has ms m) (has ns n) refl refl

@@ -12,13 +12,14 @@ use Rattle.hac_model.specs.Tree.{entry_at, is_directory_at, is_linkable, permane
 use Rattle.hac_model.specs.Tree.Valid.{AreMarks, IsLayout, IsValid, RiseFrom}
 use Rattle.hac_model.specs.declared.states.Entry.{Entry}
 use Rattle.hac_model.specs.declared.states.State.{State}
-use Rattle.hac_model.proofs.ChangeLemmas.{all-filter, all-weaker, or-cases}
+use Rattle.hac_model.proofs.ChangeLemmas.{all-filter, all-weaker}
 use Rattle.hac_model.proofs.ListedLemmas.{found-listed}
 use Rattle.hac_model.proofs.LiveLemmas.{all-few, live-few, tested-entry}
 use Rattle.hac_model.proofs.MarkLemmas.{all-passes, rise-filter}
 use Rattle.hac_model.proofs.TreeLemmas.{Lives, directory-lives}
 use Rattle.file_tree.specs.Answers.{numbers_of}
 use Rattle.hac_model.proofs.RangeLemmas.{range-rises}
+use Rattle.std.proofs.lemmas.Bool.{or_cases}
 
 -- what counts little for each entry counts little for all
 pub sum-small : (s : State) (f : ℕ → ℕ) → IsLayout s → ((n : ℕ) → f n ≤ 196609) → sum_by f (numbers_of s.entries) < 2 ^ 63
@@ -65,7 +66,7 @@ module _ (s : State) (h : IsValid s) where
 
   -- and so is what can be added
   markable-lives : (n : ℕ) → can_be_added s n ≡ true → Lives s.entries n
-  markable-lives n is = elim (or-cases (is_item s n) (is_directory_at s.entries n) is) [ inl item ↦ item-lives n item | inr dir ↦ directory-lives s.entries n dir ]
+  markable-lives n is = elim (or_cases (is_item s n) (is_directory_at s.entries n) is) [ inl item ↦ item-lives n item | inr dir ↦ directory-lives s.entries n dir ]
 
   -- what it found are items that rise
   pub links-few : (dir : ℕ) → length (transient_at s dir) ≤ 196609

@@ -19,7 +19,7 @@ use Rattle.hac_model.specs.declared.states.Entry.{Entry}
 use Rattle.hac_model.specs.declared.states.State.{State}
 use Rattle.hac_model.proofs.ChangeLemmas.{all-append, all-weaker, numbers-append}
 use Rattle.hac_model.proofs.CountLemmas.{is_queried, measured, one_if}
-use Rattle.hac_model.proofs.MountLayoutLemmas.{added-mount, all-tested, entry_at-documents, numbers-documents}
+use Rattle.hac_model.proofs.MountLayoutLemmas.{added-mount, all-tested, entry_at-documents, mount-found, numbers-documents}
 use Rattle.hac_model.proofs.PathLemmas.{ancestors-step, ancestors-taken, ancestors_by, limit, lineage-is}
 use Rattle.hac_model.proofs.TreeLemmas.{all-entries, entry_at-all, entry_at-below, entry_at-number, place-directory}
 use Rattle.hac_model.proofs.ValidLemmas.{directory-below}
@@ -27,7 +27,7 @@ use Rattle.entry_counts.specs.Counting as counting
 use Rattle.entry_counts.specs.Counting.{plus, share_of}
 use Rattle.entry_counts.proofs.CountingLemmas.{counts-added, long-told}
 use Rattle.tree_nodes.proofs.OverLemmas.{long}
-use Rattle.tree_counts.proofs.TallyLemmas.{all-documents, documents-each, documents-none, measured-append, mount-found}
+use Rattle.tree_counts.proofs.TallyLemmas.{all-documents, documents-each, documents-none, measured-append}
 
 all-behind : (P : Entry → Type 0) (es fs : List Entry) → AllByRecursion P (es ++ fs) → AllByRecursion P fs
 all-behind P [] fs all = all

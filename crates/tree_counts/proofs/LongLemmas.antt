@@ -19,7 +19,8 @@ use Rattle.hac_model.proofs.FittingLemmas.{all-passed}
 use Rattle.hac_model.proofs.LimitLemmas.{limits-within}
 use Rattle.tree_counts.proofs.DeepLemmas.{counts-documents, parents-low}
 use Rattle.tree_counts.proofs.SwapLemmas.{gone-and-new, names_in}
-use Rattle.tree_counts.proofs.TallyLemmas.{documents-each, documents-none, in-mount, inside-documents, measured-split, mount-found, mount-is, paths-left}
+use Rattle.tree_counts.proofs.TallyLemmas.{documents-each, documents-none, in-mount, inside-documents, measured-split, mount-is, paths-left}
+use Rattle.hac_model.proofs.MountLayoutLemmas.{mount-found}
 
 module _ (s : State) (h : IsLayout s) (mount : ℕ) (is : is_mount_at s.entries mount ≡ true) (xs : List (List ℕ)) where
   abbrev gone : List Entry

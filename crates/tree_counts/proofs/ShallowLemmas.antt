@@ -14,11 +14,10 @@ use Rattle.hac_model.specs.declared.limits.TheConstants.{PATH_LIMIT}
 use Rattle.hac_model.specs.declared.states.Entry.{Entry}
 use Rattle.hac_model.specs.declared.states.State.{State}
 use Rattle.hac_model.proofs.MountLayoutLemmas.{all-tested}
-use Rattle.hac_model.proofs.MoveLemmas.{paths-moved-inside, some-found}
+use Rattle.hac_model.proofs.MoveLemmas.{all_pass, paths-moved-inside, some-found}
 use Rattle.hac_model.proofs.PathLemmas.{Rises, extends-rises, path_of-deeper, path_of-room, rises-extends}
 use Rattle.hac_model.proofs.TreeLemmas.{Lives, all-entries, directory-lives, entry_at-all, entry_at-number}
 use Rattle.tree_counts.specs.Depths.{GoesTo, is_shallow}
-use Rattle.tree_counts.proofs.TallyLemmas.{all_pass}
 
 -- a test of all is one of all in order
 all-put : (p : Entry → Bool) (new : Entry) (es : List Entry) → list_all p (put_in_order new es) ≡ (p new && list_all p es)

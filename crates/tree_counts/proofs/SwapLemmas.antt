@@ -13,7 +13,7 @@ use Rattle.hac_model.specs.Tree.Valid.{NamesDiffer}
 use Rattle.std.specs.List.{AllByRecursion}
 use Rattle.hac_model.specs.declared.states.Entry.{Entry}
 use Rattle.tree_nodes.specs.Documents.{unknown}
-use Rattle.sorted_lists.proofs.OrderLemmas.{before-differs}
+use Rattle.hac_model.proofs.NameOrderLemmas.{before-differs}
 
 -- each is there once
 abbrev pub AreApart : List (List ℕ) → Type 0

@@ -1,9 +1,9 @@
 -- What a state counts for when entries come and go by the many.
 use Rattle.std.proofs.Common.{◌≡◌, ℕ, zero, suc, ◌+◌, ◌≤◌, Bool, true, false, cond, List, [], ◌∷◌, ◌++◌, length, subst, refl, ap, sym, ◌∙◌, arith}
 use Rattle.std.specs.Prelude.{◌==◌, ◌||◌, not, filter, if◌then◌else◌, IsTrue, Option, Some, None}
-use Rattle.std.specs.List.{AllByRecursion, list_all}
-use Rattle.std.specs.Option.{option_and_then, option_map, option_map_or}
-use Rattle.std.proofs.lemmas.Bool.{and_from, and_parts, eqb-true, le-leb, leb-true, ne_eqb}
+use Rattle.std.specs.List.{AllByRecursion}
+use Rattle.std.specs.Option.{option_and_then}
+use Rattle.std.proofs.lemmas.Bool.{and_parts, eqb-true, le-leb, leb-true, ne_eqb}
 use Rattle.std.proofs.lemmas.List.Sums.{sum_by-append}
 use Rattle.hac_model.specs.Tree.Limits.{are_paths_short, counts, file_bytes, has_short_path, long_paths, names_below}
 use Rattle.hac_model.specs.Tree.Listing.{in_order, is_before, put_in_order}
@@ -21,9 +21,10 @@ use Rattle.hac_model.proofs.CountLemmas.{is_queried, measured, measured-cons, me
 use Rattle.hac_model.proofs.FittingLemmas.{all-passed}
 use Rattle.hac_model.proofs.LimitLemmas.{limits-within}
 use Rattle.hac_model.proofs.MountAskLemmas.{entry_at-filter, passing}
-use Rattle.hac_model.proofs.MountLayoutLemmas.{all-tested}
+use Rattle.hac_model.proofs.MountLayoutLemmas.{all-tested, document-is, mount-found}
 use Rattle.hac_model.proofs.PathLemmas.{ancestors_by, limit, lineage-is, path_of-deeper}
 use Rattle.entry_counts.specs.Counting.{plus, share_of}
+use Rattle.hac_model.proofs.MoveLemmas.{all_pass}
 
 -- Measures of some of the entries.
 
@@ -37,14 +38,6 @@ measured-split f test (e ∷ es) = elim (test e) as (λ b. measured f (cond (not
 pub measured-append : (f : Body → ℕ) (xs ys : List Entry) → measured f (xs ++ ys) ≡ measured f xs + measured f ys
 measured-append f xs ys = sum_by-append (λ (e : Entry). f e.body) xs ys
 
-document-is : (b : Body) → is_document b ≡ true → b ≡ Document
-document-is Document is = refl
-document-is (File text dirty shown) is = absurd cc
-document-is Dir is = absurd cc
-document-is (Symlink target) is = absurd cc
-document-is (Semantic query permanent prohibited) is = absurd cc
-document-is (Mount space answers) is = absurd cc
-
 pub mount-is : (b : Body) → is_mount b ≡ true → (space : List ℕ) × (answers : List Answer) × (b ≡ Mount space answers)
 mount-is (Mount space answers) is = (space, answers, refl)
 mount-is (File text dirty shown) is = absurd cc
@@ -52,14 +45,6 @@ mount-is Dir is = absurd cc
 mount-is (Symlink target) is = absurd cc
 mount-is (Semantic query permanent prohibited) is = absurd cc
 mount-is Document is = absurd cc
-
--- the entry of a mount
-pub mount-found : (es : List Entry) (mount : ℕ) → is_mount_at es mount ≡ true → (e : Entry) × (entry_at es mount ≡ Some e) × (is_mount e.body ≡ true)
-mount-found es mount is = in_option (entry_at es mount) is
-  where
-    in_option : (o : Option Entry) → option_map_or is_mount (option_map (λ (e : Entry). e.body) o) false ≡ true → (e : Entry) × (o ≡ Some e) × (is_mount e.body ≡ true)
-    in_option None is = absurd cc
-    in_option (Some e) is = (e, refl, is)
 
 -- documents count for nothing, or each for one
 pub documents-none : (f : Body → ℕ) (es : List Entry) → f Document ≡ 0 → AllByRecursion (λ (e : Entry). is_document e.body ≡ true) es → measured f es ≡ 0
@@ -78,11 +63,6 @@ documents-each f (e ∷ es) one all =
 pub all-documents : (k m : ℕ) (xs : List (List ℕ)) → AllByRecursion (λ (e : Entry). is_document e.body ≡ true) (documents_from k m xs)
 all-documents k m [] = tt
 all-documents k m (x ∷ xs) = (refl, all-documents (k + 1) m xs)
-
--- a list whose entries pass a test passes it
-pub all_pass : (test : Entry → Bool) (es : List Entry) → AllByRecursion (λ e. test e ≡ true) es → list_all test es ≡ true
-all_pass test [] all = refl
-all_pass test (e ∷ es) all = and_from (test e) (list_all test es) all.0 (all_pass test es all.1)
 
 -- Some of the entries, and their paths.
 

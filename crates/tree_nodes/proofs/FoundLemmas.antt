@@ -1,10 +1,10 @@
 -- What is found under names among numbers, and which numbers go.
 use Rattle.std.proofs.Common.{◌≡◌, ℕ, zero, suc, ◌+◌, ◌<◌, Bool, true, false, cond, List, [], ◌∷◌, ◌++◌, length, take, get_or, refl, ap, sym, subst, ◌∙◌, arith, inl, inr, eq-eqb, add-one}
-use Rattle.std.specs.Prelude.{◌⊎◌, ◌&&◌, ◌||◌, ◌==◌, nat_eq, is_none, Option, Some}
+use Rattle.std.specs.Prelude.{◌&&◌, ◌||◌, ◌==◌, nat_eq, is_none, Option, Some}
 use Rattle.std.specs.Str.{bytes_eq}
 use Rattle.std.proofs.Math.Bool.{or-false}
 use Rattle.std.proofs.Math.Seq.{take-suc}
-use Rattle.std.proofs.lemmas.Bool.{eqb-true, ne_eqb}
+use Rattle.std.proofs.lemmas.Bool.{cases_eq, ne_eqb}
 use Rattle.std.proofs.lemmas.List.Folds.{list_any-append}
 use Rattle.std.specs.Cmp.Lexicographic.{nat_list_eq_equiv}
 use Rattle.hac_model.specs.Tree.Depends.{Among}
@@ -15,7 +15,7 @@ use Rattle.std.specs.Prelude.{IsTrue}
 use Rattle.tree_nodes.specs.Documents.{is_dropped}
 use Rattle.tree_nodes.specs.Search.{NamesRise, first_named}
 use Rattle.tree_nodes.proofs.ListLemmas.{before-itself}
-use Rattle.tree_nodes.proofs.SetLemmas.{same-or-not}
+use Rattle.hac_model.proofs.AmongLemmas.{has-among}
 
 -- equal names are found alike
 pub found-same : (names other : ℕ → List ℕ) (ns : List ℕ) (x : List ℕ) → ((n : ℕ) → Among ns n → other n ≡ names n) → first_named other ns x ≡ first_named names ns x
@@ -33,19 +33,6 @@ found-own names (m ∷ ns) n (inr rest) = elim (bytes_eq (names m) (names n)) as
   | true ↦ refl
   | false ↦ found-own names ns n rest
 ]
-
--- a list has what is among its numbers
-pub has-among : (ns : List ℕ) (n : ℕ) → has ns n ≡ true → Among ns n
-has-among [] n is = absurd cc
-has-among (m ∷ ns) n is = elim (m == n) as (λ b. (m == n) ≡ b → (b || has ns n) ≡ true → (m ≡ n) ⊎ Among ns n) [
-  | true ↦ (λ same is. inl (eqb-true m n same))
-  | false ↦ (λ other is. inr (has-among ns n is))
-] refl is
-
-pub among-has : (ns : List ℕ) (n : ℕ) → Among ns n → has ns n ≡ true
-among-has [] n among = absurd among
-among-has (m ∷ ns) n (inl same) = ap (λ (b : Bool). b || has ns n) (eq-eqb m n same)
-among-has (m ∷ ns) n (inr rest) = elim (m == n) as (λ b. (b || has ns n) ≡ true) [ true ↦ refl | false ↦ among-has ns n rest ]
 
 -- and nothing else
 pub has-not : (ns : List ℕ) (n : ℕ) → (Among ns n → ⊥) → has ns n ≡ false
@@ -96,7 +83,7 @@ module _ (names : ℕ → List ℕ) (ns kept : List ℕ) (i d : ℕ) (inside : i
   -- what becomes of one number
   pub drop-more : {X : Type 0} (gone old now : X) (test : Bool) → test ≡ is_none (first_named names kept (names (get_or ns i d))) → now ≡ cond (is_dropped names (take i ns) kept q) gone old →
       cond (nat_eq (get_or ns i d) q && test) gone now ≡ cond (is_dropped names (take (i + 1) ns) kept q) gone old
-  drop-more {X = X} gone old now test is told = elim (same-or-not (get_or ns i d) q) [
+  drop-more {X = X} gone old now test is told = elim (cases_eq (get_or ns i d) q) [
     | inl same ↦
         (let here : (get_or ns i d == q) ≡ true = eq-eqb (get_or ns i d) q same in
         let same_test : test ≡ is_none (first_named names kept (names q)) = is ∙ ap (λ (n : ℕ). is_none (first_named names kept (names n))) same in

@@ -10,7 +10,7 @@ use Rattle.hac_model.specs.Tree.Listing.{is_before}
 use Rattle.hac_model.proofs.AmongLemmas.{among-append, among-left, among-right}
 use Rattle.hac_model.proofs.ChangeLemmas.{all-filter, all-weaker}
 use Rattle.tree_nodes.specs.Search.{NamesRise, rank_in}
-use Rattle.sorted_lists.proofs.OrderLemmas.{before-differs, before-other, before-trans}
+use Rattle.hac_model.proofs.NameOrderLemmas.{before-differs, before-other, before-trans}
 
 -- what each of them keeps, all keep
 all-among : (P : ℕ → Type 0) (ns : List ℕ) → ((n : ℕ) → Among ns n → P n) → AllByRecursion P ns

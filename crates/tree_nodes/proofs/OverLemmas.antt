@@ -1,15 +1,15 @@
 -- Documents that are put under numbers that follow one another: what is under each number then.
-use Rattle.std.proofs.Common.{◌≡◌, ℕ, suc, ◌+◌, ◌<◌, ◌≤◌, Bool, true, false, cond, List, [], ◌∷◌, ◌++◌, length, refl, ap, sym, ◌∙◌, arith, inl, inr, add-one, append_assoc}
+use Rattle.std.proofs.Common.{◌≡◌, ℕ, suc, ◌+◌, ◌<◌, ◌≤◌, Bool, true, false, cond, List, [], ◌∷◌, length, refl, ap, sym, ◌∙◌, arith, inl, inr}
 use Rattle.std.specs.Prelude.{nat_eq, is_none, Option, Some, None}
-use Rattle.std.specs.Option.{option_map, option_map_or, option_to_list}
-use Rattle.std.proofs.lemmas.List.{append-nil}
+use Rattle.std.specs.Option.{option_map, option_map_or}
 use Rattle.hac_model.specs.Tree.{is_dirty}
 use Rattle.hac_model.specs.Tree.Mounting.{documents_from}
 use Rattle.hac_model.specs.declared.states.Body.TheVariants.{Document}
 use Rattle.hac_model.specs.declared.states.Entry.{Entry}
 use Rattle.tree_nodes.specs.Documents.{unknown, with_entries, with_names}
 use Rattle.tree_nodes.specs.Nodes.{parent_in, set_at}
-use Rattle.tree_nodes.proofs.SetLemmas.{same-or-not, set-here, set-there}
+use Rattle.tree_nodes.proofs.SetLemmas.{set-here, set-there}
+use Rattle.std.proofs.lemmas.Bool.{cases_eq}
 
 -- the entry that is looked up is dirty
 abbrev pub dirty_in : Option Entry → Bool
@@ -59,7 +59,7 @@ over-high (x ∷ xs) k m q at high = over-high xs (k + 1) m q (set_at k (Some (d
 -- in between are documents of the mount
 pub over-inside : (xs : List (List ℕ)) (k m q : ℕ) (at : ℕ → Option Entry) → k ≤ q → q < k + length xs → parent_in (with_entries (documents_from k m xs) at q) ≡ Some m
 over-inside [] k m q at high low = absurd (omega arith)
-over-inside (x ∷ xs) k m q at high low = elim (same-or-not k q) [
+over-inside (x ∷ xs) k m q at high low = elim (cases_eq k q) [
   | inl same ↦ ap parent_in (
       over-low xs (k + 1) m q (set_at k (Some (document k m x)) at) (omega arith)
       ∙ ap (λ (n : ℕ). set_at k (Some (document k m x)) at n) (sym same)
@@ -94,7 +94,7 @@ pub over-clean : (xs : List (List ℕ)) (k m q : ℕ) (at : ℕ → Option Entry
 over-clean [] k m q at none = refl
 over-clean (x ∷ xs) k m q at none =
     over-clean xs (k + 1) m q (set_at k (Some (document k m x)) at) (λ n high. set-there k (Some (document k m x)) at n (λ same. omega arith) ∙ none n (omega arith))
-    ∙ (elim (same-or-not k q) [
+    ∙ (elim (cases_eq k q) [
       | inl same ↦
           ap (λ (n : ℕ). dirty_in (set_at k (Some (document k m x)) at n)) (sym same)
           ∙ ap dirty_in (set-here k (Some (document k m x)) at)

@@ -6,12 +6,8 @@ use Rattle.std.specs.Cmp.Lexicographic.{nat_list_eq_equiv}
 use Rattle.std.specs.Str.{bytes_eq}
 use Rattle.hac_model.specs.Tree.Listing.{is_before}
 use Rattle.tree_nodes.specs.Search.{NamesRise, first_named, rank_in}
-use Rattle.sorted_lists.proofs.OrderLemmas.{before-differs, before-other, before-trans}
-
-all-index : {X : Type 0} (P : X → Type 0) (xs : List X) (i : ℕ) (d : X) → AllByRecursion P xs → i < length xs → P (get_or xs i d)
-all-index P [] i d h inside = absurd (omega arith)
-all-index P (x ∷ xs) zero d h inside = h.0
-all-index P (x ∷ xs) (suc i) d h inside = all-index P xs i d h.1 (omega arith)
+use Rattle.hac_model.proofs.NameOrderLemmas.{before-differs, before-other, before-trans}
+use Rattle.hac_model.proofs.SortedLemmas.{all-index}
 
 module _ (names : ℕ → List ℕ) (name : List ℕ) where
   pub rank-length : (ns : List ℕ) → rank_in names name ns ≤ length ns

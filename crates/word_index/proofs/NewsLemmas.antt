@@ -8,11 +8,11 @@ use Rattle.hac_model.specs.Tree.Mounts.{is_kept, kept_for}
 use Rattle.hac_model.specs.Tree.Valid.{TermsRise}
 use Rattle.hac_model.specs.declared.states.Answer.{Answer}
 use Rattle.hac_model.specs.declared.terms.Term.{Term}
-use Rattle.hac_model.proofs.TermLemmas.{same-own, terms-even}
+use Rattle.hac_model.proofs.TermLemmas.{same-own, term-trans, terms-even}
 use Rattle.word_index.specs.Answers.{first_of, with_answer, with_answers}
-use Rattle.hac_model.proofs.SortedLemmas.{all-weaker}
-use Rattle.hac_model.proofs.TermOrderLemmas.{before-differs, behind-differs, term-trans}
+use Rattle.hac_model.proofs.TermOrderLemmas.{before-differs, behind-differs}
 use Rattle.word_index.proofs.ToldLemmas.{kept-all}
+use Rattle.hac_model.proofs.ChangeLemmas.{all-weaker}
 
 -- one answer more
 new-put : (new : Answer) (answers : List Answer) → is_kept answers new.term ≡ false → with_answer new answers ≡ asking.put_answer new answers

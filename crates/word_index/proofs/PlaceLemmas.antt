@@ -9,12 +9,14 @@ use Rattle.hac_model.specs.Tree.Mounts.{is_kept, kept_for}
 use Rattle.hac_model.specs.Tree.Valid.{RiseFrom, TermsRise}
 use Rattle.hac_model.specs.declared.states.Answer.{Answer}
 use Rattle.hac_model.specs.declared.terms.Term.{Term}
-use Rattle.hac_model.proofs.TermLemmas.{same-even, same-own, terms-even}
+use Rattle.hac_model.proofs.TermLemmas.{same-even, same-own, term-irreflexive, term-trans, terms-even}
 use Rattle.word_index.specs.Answers.{AreInOrder, with_answer}
 use Rattle.word_index.specs.Places.{ArePlacesInOrder, DoDocumentsRise, DoPlacesRise, answers_in, bare_place, found_place, has_term, is_place_before, place_filled, with_place}
 use Rattle.word_index.specs.declared.places.Place.{Place}
-use Rattle.hac_model.proofs.SortedLemmas.{Falls, all-weaker, get-inside, get-outside}
-use Rattle.hac_model.proofs.TermOrderLemmas.{before-differs, behind-differs, never-both, never-own, term-trans}
+use Rattle.hac_model.proofs.SortedLemmas.{Falls}
+use Rattle.hac_model.proofs.TermOrderLemmas.{before-differs, behind-differs, never-both}
+use Rattle.hac_model.proofs.ChangeLemmas.{all-weaker, or-turned}
+use Rattle.std.proofs.lemmas.Option.{slice_get-get_or, slice_get_past}
 
 -- ---- how a place is found
 
@@ -128,16 +130,11 @@ placed-answers term (p ∷ places) =
       | false ↦ refl
     ]
 
-or-swap : (a b c : Bool) → (a || (b || c)) ≡ (b || (a || c))
-or-swap true true c = refl
-or-swap true false c = refl
-or-swap false b c = refl
-
 placed-terms : (new : Place) (places : List Place) (term : Term) → has_term (placed new places) term ≡ (is_same_term new.term term || has_term places term)
 placed-terms new [] term = refl
 placed-terms new (p ∷ places) term =
     elim (is_place_before new.term p) as (λ b. has_term (if b then p ∷ placed new places else new ∷ p ∷ places) term ≡ (is_same_term new.term term || has_term (p ∷ places) term)) [
-      | true ↦ ap (λ (b : Bool). is_same_term p.term term || b) (placed-terms new places term) ∙ or-swap (is_same_term p.term term) (is_same_term new.term term) (has_term places term)
+      | true ↦ ap (λ (b : Bool). is_same_term p.term term || b) (placed-terms new places term) ∙ or-turned (is_same_term p.term term) (is_same_term new.term term) (has_term places term)
       | false ↦ refl
     ]
 
@@ -319,7 +316,7 @@ refilled-answers new (p ∷ places) h there =
     here same apart (Some d) =
         sym (ap (λ (b : Bool). if b then new ∷ record { term = p.term; documents = d } ∷ answers_in places
         else (if is_term_before p.term new.term then record { term = p.term; documents = d } ∷ with_answer new (answers_in places) else new ∷ answers_in places))
-        (subst (λ (t : Term). is_term_before t p.term ≡ false) same (never-own p.term))
+        (subst (λ (t : Term). is_term_before t p.term ≡ false) same (term-irreflexive p.term))
         ∙ ap (λ (b : Bool). if b then record { term = p.term; documents = d } ∷ with_answer new (answers_in places) else new ∷ answers_in places) apart)
     here same apart None = sym (with-first new places (subst (λ (t : Term). AllByRecursion (λ q. is_term_before t q.term ≡ true) places) same h.0))
 
@@ -329,12 +326,12 @@ module _ (term : Term) (places : List Place) (rise : DoPlacesRise places) (i : �
   pub found-end : length places ≤ i → found_place places term ≡ None
   found-end outside =
       found-rank term places rise ∙ ap (λ (k : ℕ). if_found term (slice_get places k)) (sym rank)
-      ∙ ap (λ (o : Option Place). if_found term o) (get-outside places i outside)
+      ∙ ap (λ (o : Option Place). if_found term o) (slice_get_past places i outside)
 
   pub found-at : (p : Place) → i < length places → p ≡ get_or places i p → found_place places term ≡ cond (is_term_before term p.term) None (Some p)
   found-at p inside is =
       found-rank term places rise ∙ ap (λ (k : ℕ). if_found term (slice_get places k)) (sym rank)
-      ∙ ap (λ (o : Option Place). if_found term o) (get-inside places i p inside)
+      ∙ ap (λ (o : Option Place). if_found term o) (slice_get-get_or places i p inside)
       ∙ ap (λ (q : Place). if_found term (Some q)) (sym is)
 
 -- ---- places that answers are put into

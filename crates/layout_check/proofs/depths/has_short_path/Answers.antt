@@ -2,7 +2,7 @@ use Rattle.std.proofs.Common.{ℕ, ◌+◌, length, ap, ◌∙◌}
 use Rattle.std.specs.Prelude.{nat_le}
 use Rattle.hac_model.specs.Tree.{lineage}
 use Rattle.hac_model.specs.declared.limits.TheConstants.{PATH_LIMIT}
-use Rattle.layout_check.proofs.LimitLemmas.{lineage-steps}
+use Rattle.hac_model.proofs.PathLemmas.{lineage-steps}
 use Rattle.layout_check.proofs.depths.has_short_path.Goals as goal
 
 pub returns : goal.returns

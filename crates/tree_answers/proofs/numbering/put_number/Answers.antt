@@ -4,7 +4,8 @@ use Rattle.std.specs.List.{insert}
 use Rattle.std.proofs.lemmas.List.Sorted.{searched}
 use Rattle.hac_model.specs.Tree.Valid.{RiseFrom}
 use Rattle.tree_answers.specs.Numbering.{put_number}
-use Rattle.tree_answers.proofs.NumberingLemmas.{put-between, put-there, rise-order}
+use Rattle.tree_answers.proofs.NumberingLemmas.{put-between, put-there}
+use Rattle.hac_model.proofs.SortedLemmas.{rise-order}
 use Rattle.tree_answers.proofs.numbering.put_number.Goals as goal
 
 pub returns-in_ok-insert : goal.returns-in_ok-insert

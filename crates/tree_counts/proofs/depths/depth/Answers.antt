@@ -1,6 +1,5 @@
 use Rattle.std.proofs.Common.{ap, ◌∙◌, length, sym}
-use Rattle.hac_model.proofs.PathLemmas.{length-path}
-use Rattle.file_tree.proofs.StepLemmas.{lineage-steps}
+use Rattle.hac_model.proofs.PathLemmas.{length-path, lineage-steps}
 use Rattle.tree_counts.proofs.depths.depth.Goals as goal
 
 pub returns-clause-depth : goal.returns-clause-depth

@@ -8,7 +8,8 @@ use Rattle.hac_model.specs.declared.states.Entry.{Entry}
 use Rattle.file_tree.specs.Loading.{bare_entry}
 use Rattle.tree_nodes.specs.Nodes.{entry_of, kids_of, name_of}
 use Rattle.tree_nodes.specs.Search.{rank_in}
-use Rattle.file_tree.proofs.LoadLemmas.{dirty-bare, placed-lists}
+use Rattle.file_tree.proofs.LoadLemmas.{placed-lists}
+use Rattle.hac_model.proofs.AlikeLemmas.{bare-dirty}
 use Rattle.file_tree.proofs.loading.Loading.place.Goals as goal
 
 -- each part is changed by its own call
@@ -29,5 +30,5 @@ returns c =
           ∙ ap (λ (x : List ℕ). cond (nat_eq e.parent q) (insert (kids_of old.nodes e.parent) (rank_in (name_of old.nodes) x (kids_of old.nodes e.parent)) e.number) (kids_of old.nodes q)) c.as_bytes.ensures;
       dirty = λ q. c.in_ok-reserve.ensures.dirty q
           ∙ ap (λ (b : Body). contains nat_cmp old.to_index q || (is_dirty b && nat_eq e.number q)) body
-          ∙ ap (λ (b : Bool). contains nat_cmp old.to_index q || (b && nat_eq e.number q)) (dirty-bare e.body);
+          ∙ ap (λ (b : Bool). contains nat_cmp old.to_index q || (b && nat_eq e.number q)) (bare-dirty e.body);
     }

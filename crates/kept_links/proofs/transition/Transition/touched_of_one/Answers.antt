@@ -2,7 +2,8 @@ use Rattle.std.proofs.Common.{◌≡◌, ◌<◌, ◌≤◌, ◌++◌, ◌∙◌
 use Rattle.hac_model.specs.Tree.Events.{apply}
 use Rattle.hac_model.specs.Tree.Touched.{touches}
 use Rattle.hac_model.specs.declared.states.State.{State}
-use Rattle.kept_links.proofs.TouchLemmas.{le-told, not-le-told, touched-one, touched-past}
+use Rattle.kept_links.proofs.TouchLemmas.{touched-one, touched-past}
+use Rattle.hac_model.proofs.SortedLemmas.{le-told, not-le-told}
 use Rattle.kept_links.proofs.transition.Transition.touched_of_one.Goals as goal
 
 pub returns-then-le : goal.returns-then-le

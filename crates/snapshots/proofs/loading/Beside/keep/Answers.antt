@@ -7,7 +7,8 @@ use Rattle.hac_model.specs.declared.states.Answer.{Answer}
 use Rattle.hac_model.specs.declared.states.Body.TheVariants.{Semantic, Mount}
 use Rattle.hac_model.specs.declared.states.Entry.{Entry}
 use Rattle.snapshots.specs.declared.loading.Beside.{Beside}
-use Rattle.snapshots.proofs.BesideLemmas.{beside-answered, beside-asked, beside-untold, on_ok-all, on_ok-two}
+use Rattle.snapshots.proofs.BesideLemmas.{beside-answered, beside-asked, beside-untold, on_ok-two}
+use Rattle.file_tree.proofs.ReadLemmas.{on_ok-map}
 use Rattle.snapshots.proofs.loading.Beside.keep.Goals as goal
 
 pub returns-in_ok-keep_edges-in-Semantic : goal.returns-in_ok-keep_edges-in-Semantic
@@ -33,7 +34,7 @@ returns-in-Mount c = λ before new h.
     let answers : List Answer = c.as_slice-in-Mount.result.now in
     let is : e.body ≡ Mount c.in-Mount.space answers =
     c.in-Mount.is ∙ (λ i. Mount c.in-Mount.space (sym c.as_slice-in-Mount.ensures i)) in
-    on_ok-all c.keep_answers.result c.keep_answers.ensures
+    on_ok-map c.keep_answers.result c.keep_answers.ensures
     (λ lists. beside-answered (is_directory_at c.args.entries.now) before e new old after h c.in-Mount.space answers is refl refl lists)
 
 pub returns-in-File : goal.returns-in-File
