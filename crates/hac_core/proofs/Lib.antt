@@ -1,6 +1,6 @@
 mod AskedLemmas
 mod BlockingLemmas
-mod DraftLemmas
+pub mod DraftLemmas
 mod SettleLemmas
 mod ShowLemmas
 mod StandsLemmas

@@ -1,5 +1,5 @@
 -- The mark of each item in a directory after an event, by the marks before it.
-use Rattle.std.proofs.Common.{◌≡◌, ℕ, Bool, true, false, cond, List, ◌∷◌, refl, ap, sym, ◌∙◌}
+use Rattle.std.proofs.Common.{◌≡◌, ℕ, Bool, true, false, cond, List, ◌∷◌, refl, ap, sym, ◌∙◌, eq-eqb}
 use Rattle.std.specs.Prelude.{◌==◌, ◌&&◌, ◌||◌, not, Option, Some, None, IsTrue, option_and_then}
 use Rattle.std.specs.Option.{option_map, option_map_or}
 use Rattle.std.proofs.lemmas.Bool.{eqb-false, eqb-true, ne_eqb}
@@ -35,7 +35,6 @@ use Rattle.kept_state.proofs.ReaderLemmas.{mark-told, marks-of}
 use Rattle.kept_state.proofs.ReadyLemmas.{possible-of}
 use Rattle.kept_state.proofs.StateLemmas.{kept-bares, same-item, same-next-bare, tree-layout}
 use Rattle.hac_model.proofs.FactLemmas.{permanent-fact, prohibited-fact}
-use Rattle.hac_model.proofs.MarkLawLemmas.{put-has, without-other}
 
 -- Marks of one directory.
 
@@ -45,6 +44,12 @@ kind_by permanent prohibited = cond permanent Permanent (cond prohibited Prohibi
 -- the mark of an item among these
 abbrev pub mark_in : Marks → ℕ → Kind
 mark_in marks item = kind_by (has marks.permanent item) (has marks.prohibited item)
+
+put-has : (n : ℕ) (xs : List ℕ) → has (put_in n xs) n ≡ true
+put-has n xs = has-put_in n xs n ∙ ap (λ (b : Bool). b || has xs n) (eq-eqb n n refl)
+
+without-other : (n m : ℕ) (xs : List ℕ) → (m == n) ≡ false → has (without n xs) m ≡ has xs m
+without-other n m xs other = has-filter (λ x. not (x == n)) xs m ∙ ap (λ (b : Bool). not b && has xs m) other
 
 put-other : (n m : ℕ) (xs : List ℕ) → (m == n) ≡ false → has (put_in n (without n xs)) m ≡ has xs m
 put-other n m xs other =
