@@ -8,23 +8,35 @@ mail and no terminal.
 from __future__ import annotations
 
 import argparse
+import contextlib
+import errno
 import fcntl
+import io
 import os
 import re
+import select
 import signal
+import stat
 import subprocess
 import sys
 import time
+from collections import deque
 from dataclasses import dataclass
 from pathlib import Path
 from types import TracebackType
-from typing import Callable, Dict, List, NoReturn, Optional, Set, Tuple, Type
+from typing import Callable, Deque, Dict, Iterator, List, NoReturn, Optional, Set, Tuple, Type
 
-TOP = Path(__file__).resolve().parent.parent
+HERE = Path(__file__).resolve().parent
+TOP = HERE.parent
+
+VERSION = "1.0"
 
 MAX_NAME = 255
 MAX_TEXT = 1_048_576
 MAX_SCRIPT = 268_435_456
+# What a whole store takes: bytes of all its texts, and files and documents.
+MAX_TEXTS = 67_108_864
+MAX_ITEMS = 65_536
 
 # What each cause of a refusal means. The key is its first word or, behind `limit`, two.
 CAUSES: Dict[str, str] = {
@@ -74,6 +86,8 @@ CAUSES: Dict[str, str] = {
     "limit store": "the store file has its greatest length",
 }
 
+BUSY = "another run of hac has it open"
+
 _STORED = "Every command that was answered is in the store, and at most one more."
 
 # How hac ends, other than well: what happened, and what that means.
@@ -85,6 +99,7 @@ _ENDINGS: Dict[int, str] = {
     f"yours to write, or another run may have it open. {_STORED}",
     6: "the file isn't a store. Nothing was written to it.",
     7: f"memory ran out. {_STORED}",
+    8: "a catalogue has a bad line, or can't be read. The store wasn't touched.",
     9: f"it got more than a script may have. {_STORED}",
     10: "the file is a store already. Nothing was written to it.",
 }
@@ -105,16 +120,30 @@ class Stopped(ToolError):
         self.ended = status
         self.said = said
         self.status = status if status > 0 else 128 - status
+        self.why = fault_of(store) if status == 5 else None
 
     def __str__(self) -> str:
         store = shown(os.fsencode(self.store))
         if self.ended < 0:
             return f"{store}: hac was ended by {_signal_name(-self.ended)}. {_STORED}"
-        if self.ended == 5 and not self.store.exists():
-            return f"{store}: hac ended with status 5: there is no such file"
-        words = _ENDINGS.get(self.ended, f"it doesn't say why. {_STORED}")
+        words = f"{self.why}. {_STORED}" if self.why else _ENDINGS.get(self.ended, f"it doesn't say why. {_STORED}")
         said = f" ({self.said})" if self.said else ""
         return f"{store}: hac ended with status {self.ended}{said}: {words}"
+
+
+class CannotOpen(Stopped):
+    """The system says why there can be no run on this store. None was begun, and nothing was made."""
+
+    def __init__(self, store: Path, why: str) -> None:
+        super().__init__(store, 5, "")
+        self.why = why
+
+    def __str__(self) -> str:
+        return f"{shown(os.fsencode(self.store))}: {self.why}"
+
+
+class Interrupted(Exception):
+    """The user doesn't want to wait for this answer. The command is carried out all the same."""
 
 
 class InUse(ToolError):
@@ -161,20 +190,31 @@ class Hac:
     waits until that program has ended.
     """
 
-    def __init__(self, store: Path, *, make: bool = False, ticks: int = 0, wait: float = 10.0) -> None:
+    def __init__(
+        self, store: Path, *, make: bool = False, ticks: int = 0, wait: float = 10.0, spaces: Tuple[str, ...] = ()
+    ) -> None:
         """Opens a store, or makes it where `make` is given and there is no file. Behind each reply up to `ticks` files are
-        indexed."""
+        indexed. Each of `spaces` attaches one, as NAME=FILE."""
         self.store = store
+        self._spaces = [os.fsencode(space) for space in spaces]
         self._words = [b"--tick", b"%d" % ticks] if ticks else []
+        why = unmakeable(store) if make and not os.path.lexists(store) else unopenable(store)
+        if why is not None:
+            raise CannotOpen(store, why)
         self._program = find_program()
         self._lock = _locked(store, wait)
         self._sessions: Set[bytes] = {b"main"}
+        self._wakes: Optional[int] = None
+        self._owes = False
         try:
             self._kept = () if self._lock is None else (self._lock,)
             if make and not store.exists():
                 _make_store(self._program, store, self._kept)
             self._process = self._start()
         except BaseException:
+            if self._lock is not None and not os.path.lexists(store):
+                with contextlib.suppress(OSError):
+                    os.unlink(_lock_file(store))
             self._unlock()
             raise
 
@@ -204,6 +244,12 @@ class Hac:
         if self._sent + len(script) + 38 * len(self._sessions) > MAX_SCRIPT:
             self._go_on()
         return self._answered(script)
+
+    def is_running(self) -> bool:
+        """The program hasn't ended. Its end stays to be taken."""
+        if self._process.returncode is not None:
+            return False
+        return os.waitid(os.P_PID, self._process.pid, os.WEXITED | os.WNOHANG | os.WNOWAIT) is None
 
     def put(self, path: bytes, text: bytes) -> Reply:
         return self.ask(b"put %s %d" % (word(path), len(text)), text)
@@ -236,6 +282,25 @@ class Hac:
     def index(self) -> Reply:
         return self.ask(b"index")
 
+    @contextlib.contextmanager
+    def interruptible(self) -> Iterator[None]:
+        """Here a Control-C ends the wait for an answer, by Interrupted. That answer is read to its end, and dropped,
+        before the next command is sent, so later answers are those of their commands."""
+        wakes, woken = os.pipe()
+        os.set_blocking(wakes, False)
+        os.set_blocking(woken, False)
+        before = signal.signal(signal.SIGINT, lambda number, frame: None)
+        before_wakes = signal.set_wakeup_fd(woken, warn_on_full_buffer=False)
+        self._wakes = wakes
+        try:
+            yield
+        finally:
+            self._wakes = None
+            signal.set_wakeup_fd(before_wakes)
+            signal.signal(signal.SIGINT, before)
+            os.close(wakes)
+            os.close(woken)
+
     def make_directories(self, path: bytes) -> Reply:
         """Makes each directory on a path that isn't there yet. The reply is that to the last one."""
         reply = self.ls(path)
@@ -262,7 +327,10 @@ class Hac:
         """The reply to a line with the bytes that belong to it."""
         if self._process.returncode is not None:
             raise self._stopped()
+        if self._owes:
+            self._reply()  # Of an answer that was dropped.
         self._sent += len(script)
+        self._owes = True
         assert self._process.stdin is not None
         try:
             self._process.stdin.write(script)
@@ -271,10 +339,14 @@ class Hac:
             pass  # The replies end too, and then its status tells why.
         return self._reply()
 
-    def _start(self) -> subprocess.Popen:
+    def _start(self) -> "subprocess.Popen[bytes]":
         self._sent = 0
+        self._owes = False
+        self._come: List[bytes] = []
+        self._lines: Deque[bytes] = deque()
+        self._rest = b""
         return subprocess.Popen(
-            [os.fsencode(self._program), *self._words, b"--", os.fsencode(self.store)],
+            [os.fsencode(self._program), *self._words, b"--", os.fsencode(self.store), *self._spaces],
             stdin=subprocess.PIPE,
             stdout=subprocess.PIPE,
             stderr=subprocess.PIPE,
@@ -283,17 +355,35 @@ class Hac:
         )
 
     def _reply(self) -> Reply:
-        assert self._process.stdout is not None
-        lines: List[bytes] = []
+        """The answer that is due. Where the wait for it is interrupted, what came of it is kept for the next call."""
+        lines = self._come
         while True:
-            line = self._process.stdout.readline()
-            if not line.endswith(b"\n"):
+            line = self._line()
+            if line == b"ok":
+                reply = Reply(tuple(lines))
+            elif line.startswith(b"no ") and not lines:
+                reply = Reply(refusal=line[3:])
+            else:
+                lines.append(line)
+                continue
+            self._come, self._owes = [], False
+            return reply
+
+    def _line(self) -> bytes:
+        """The next line, without its end."""
+        assert self._process.stdout is not None
+        while not self._lines:
+            source = self._process.stdout.fileno()
+            if self._wakes is not None:
+                select.select([source, self._wakes], [], [])
+                if _drained(self._wakes):
+                    raise Interrupted
+            came = os.read(source, 65536)
+            if not came:
                 raise self._stopped()
-            if line == b"ok\n":
-                return Reply(tuple(lines))
-            if line.startswith(b"no ") and not lines:
-                return Reply(refusal=line[3:-1])
-            lines.append(line[:-1])
+            *whole, self._rest = (self._rest + came).split(b"\n")
+            self._lines.extend(whole)
+        return self._lines.popleft()
 
     def _stopped(self) -> Stopped:
         status, said = self._wait()
@@ -329,19 +419,22 @@ class Hac:
 
 
 def find_program() -> Path:
-    """The program that HAC names, or the one that ./hac at the top of the repository proves and builds."""
+    """The program that HAC names, the one that was installed beside this file, or the one that ./hac at the top of the
+    repository would run, which it builds where that has to be."""
     given = os.environ.get("HAC")
     if given:
         if not os.access(given, os.X_OK) or os.path.isdir(given):
             raise ToolError(f"HAC names no program: {given}")
         return Path(given).absolute()
+    if os.access(HERE / "hac", os.X_OK):
+        return HERE / "hac"
     try:
-        ended = subprocess.run([TOP / "hac"], stdin=subprocess.DEVNULL, stdout=subprocess.DEVNULL)
+        ended = subprocess.run([TOP / "hac", "--program"], stdin=subprocess.DEVNULL, stdout=subprocess.PIPE)
     except OSError as error:
         raise ToolError(f"{TOP / 'hac'} can't be run: {error.strerror}") from error
-    if ended.returncode != 2:
+    if ended.returncode != 0:
         raise ToolError(f"{TOP / 'hac'} didn't build the program: it ended with status {ended.returncode}")
-    return TOP / "crates/hac/out/hac"
+    return Path(os.fsdecode(ended.stdout.rstrip(b"\n")))
 
 
 def store_at(name: str) -> Path:
@@ -349,10 +442,88 @@ def store_at(name: str) -> Path:
     return Path(os.path.realpath(name))
 
 
+def unopenable(store: Path) -> Optional[str]:
+    """Why the system lets nobody, or not this user, open a store for reading and writing, if it doesn't."""
+    try:
+        status = os.stat(store)
+    except FileNotFoundError:
+        return "there is no such file; `hac-shell --new` makes a new store"
+    except PermissionError:
+        return "you have no permission to look into its folder"
+    except OSError as error:
+        return f"it can't be opened: {error.strerror}"
+    if stat.S_ISDIR(status.st_mode):
+        return "it is a folder, and no store"
+    if not stat.S_ISREG(status.st_mode):
+        return "it is no regular file, and no store"
+    if not _may(store, os.R_OK):
+        return "you have no permission to read it"
+    if not _may(store, os.W_OK):
+        return "you may only read it, and hac opens a store to write too; copy the file and open the copy"
+    return None
+
+
+def unmakeable(store: Path) -> Optional[str]:
+    """Why no store can be made here, if none can."""
+    folder = shown(os.fsencode(store.parent))
+    try:
+        if not stat.S_ISDIR(os.stat(store.parent).st_mode):
+            return f"no store can be made there: {folder} is no folder"
+    except FileNotFoundError:
+        return f"no store can be made there: there is no folder {folder}"
+    except OSError as error:
+        return f"no store can be made there: {folder}: {error.strerror}"
+    if not _may(store.parent, os.W_OK | os.X_OK):
+        return f"no store can be made there: you have no permission to write in the folder {folder}"
+    return None
+
+
+def fault_of(store: Path) -> Optional[str]:
+    """What the system says of a store behind a disk fault, if it says something."""
+    why = unopenable(store)
+    if why is None and _is_locked(store):
+        return BUSY
+    try:
+        if why is None and os.statvfs(store).f_bavail == 0:
+            return "the disk is full"
+    except OSError:
+        pass
+    return why
+
+
+def _may(path: Path, mode: int) -> bool:
+    effective = os.access in os.supports_effective_ids
+    return os.access(path, mode, effective_ids=effective)
+
+
+def _is_locked(store: Path) -> bool:
+    """A run of hac holds its lock on the store."""
+    try:
+        with open(store, "rb") as file:
+            fcntl.flock(file, fcntl.LOCK_SH | fcntl.LOCK_NB)
+    except BlockingIOError:
+        return True
+    except OSError:
+        pass
+    return False
+
+
+def _drained(wakes: int) -> bool:
+    """Something stood in this pipe, and stands there no more."""
+    try:
+        return bool(os.read(wakes, 4096))
+    except BlockingIOError:
+        return False
+
+
+def _lock_file(store: Path) -> str:
+    return f"{os.fspath(store)}.lock"
+
+
 def _locked(store: Path, wait: float) -> Optional[int]:
     """A lock on the store, or none where no file can be made beside it."""
     try:
-        lock = os.open(f"{os.fspath(store)}.lock", os.O_RDWR | os.O_CREAT | os.O_CLOEXEC, 0o666)
+        lock = os.open(_lock_file(store), os.O_RDWR | os.O_CREAT | os.O_CLOEXEC, 0o666)
     except OSError:
         return None
     until = time.monotonic() + wait
@@ -400,12 +571,19 @@ def sync_folder(folder: Path) -> None:
 def write_whole(path: Path, content: bytes) -> None:
     """Writes a file so that at any moment it has its old content or the new one."""
     new = path.with_name(path.name + ".new")
-    with open(new, "wb") as file:
-        file.write(content)
-        file.flush()
-        os.fsync(file.fileno())
-    os.replace(new, path)
-    sync_folder(path.parent)
+    try:
+        with open(new, "wb") as file:
+            file.write(content)
+            file.flush()
+            os.fsync(file.fileno())
+        os.replace(new, path)
+        sync_folder(path.parent)
+    except OSError as error:
+        if error.filename is None:  # A write that fails doesn't say where.
+            with contextlib.suppress(OSError):
+                os.unlink(new)
+            raise OSError(error.errno, error.strerror, os.fspath(path)) from error
+        raise
 
 
 # How words, paths and texts are spelled.
@@ -511,9 +689,20 @@ class Words(argparse.ArgumentParser):
         usage = page.splitlines()[0]
         super().__init__(prog=usage.split(" ")[1], usage=usage[len("usage: ") :], allow_abbrev=False)
         self._page = page
+        self.add_argument("--version", action="version", version=f"{self.prog} {VERSION}")
 
     def format_help(self) -> str:
         return self._page
+
+    def given(self) -> argparse.Namespace:
+        """The words of this call. An option that there isn't is told before words that miss."""
+        for word in sys.argv[1:]:
+            if word == "--":
+                break
+            name = word.partition("=")[0] if word.startswith("--") else word[:2]
+            if len(name) > 1 and name.startswith("-") and name not in self._option_string_actions:
+                self.error(f"there is no option {shown(os.fsencode(name))}; --help shows the page")
+        return self.parse_args()
 
 
 class Progress:
@@ -544,6 +733,8 @@ class Progress:
         self._width = len(line)
 
 
+_FULL = "; the disk is full: make room and run it again, and it goes on"
+
 _GOES_ON = "stopped; what was done is in the store, and the next run goes on"
 
 
@@ -552,8 +743,11 @@ def run_tool(tool: str, main: Callable[[], int], stopped: str = _GOES_ON) -> NoR
 
     `stopped` is what a user who stopped it should know.
     """
+    if signal.getsignal(signal.SIGINT) is signal.SIG_DFL:
+        signal.signal(signal.SIGINT, signal.default_int_handler)
     for stream in (sys.stdout, sys.stderr):
-        stream.reconfigure(errors="backslashreplace")
+        if isinstance(stream, io.TextIOWrapper):
+            stream.reconfigure(errors="backslashreplace")
     try:
         status = main()
         sys.stdout.flush()
@@ -569,6 +763,7 @@ def run_tool(tool: str, main: Callable[[], int], stopped: str = _GOES_ON) -> NoR
         status = 128 + signal.SIGPIPE
     except OSError as error:
         name = f"{shown(os.fsencode(error.filename))}: " if isinstance(error.filename, (str, bytes)) else ""
-        print(f"{tool}: {name}{error.strerror or error}", file=sys.stderr)
+        full = _FULL if name and error.errno in (errno.ENOSPC, errno.EDQUOT) else ""
+        print(f"{tool}: {name}{error.strerror or error}{full}", file=sys.stderr)
         status = 1
     sys.exit(status)

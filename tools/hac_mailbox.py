@@ -33,30 +33,47 @@ SHOWN_HEADERS = ("From", "To", "Cc", "Date", "Subject", "Message-ID")
 
 @dataclass(frozen=True)
 class Source:
-    """Where a message stands, for a person, and its bytes or why there are none."""
+    """Where a message stands, for a person, its bytes or why there are none, and the day on which it came, where its
+    mailbox tells that."""
 
     place: str
     content: bytes = b""
     fault: Optional[str] = None
+    came: str = ""
 
 
 _TOO_LONG = "it has more than 67,108,864 bytes"
 
 
 def messages_of(source: Path) -> Iterator[Source]:
-    if (source / "cur").is_dir() and (source / "new").is_dir():
-        return maildir_messages(source)
     if source.is_file():
         return mbox_messages(source)
-    if source.exists():
-        raise ToolError(f"{shown(os.fsencode(source))} is neither an mbox file nor a Maildir with `cur` and `new`")
-    raise ToolError(f"{shown(os.fsencode(source))}: there is no such file or folder")
+    if not source.exists():
+        raise ToolError(f"{shown(os.fsencode(source))}: there is no such file or folder")
+    folders = maildirs_in(source)
+    if not folders:
+        raise ToolError(
+            f"{shown(os.fsencode(source))} is neither an mbox file nor a folder with a Maildir, which has `cur` and `new`"
+        )
+    return itertools.chain.from_iterable(maildir_messages(folder, source) for folder in folders)
 
 
-def maildir_messages(folder: Path) -> Iterator[Source]:
+def maildirs_in(source: Path) -> List[Path]:
+    """The Maildirs in a folder, itself first: those of a Maildir's folders stand in it, and any may stand below others."""
+    found = []
+    for at, names, _ in os.walk(os.fsencode(source)):
+        names.sort()
+        if b"cur" in names and b"new" in names:
+            found.append(Path(os.fsdecode(at)))
+            names[:] = [name for name in names if name not in (b"cur", b"new", b"tmp")]
+    return found
+
+
+def maildir_messages(folder: Path, source: Path) -> Iterator[Source]:
+    below = "" if folder == source else shown(os.fsencode(folder.relative_to(source))) + "/"
     for part in ("cur", "new"):
         for path in sorted((folder / part).iterdir(), key=os.fsencode):
-            place = f"{part}/{shown(os.fsencode(path.name))}"
+            place = f"{below}{part}/{shown(os.fsencode(path.name))}"
             if path.name.startswith(".") or not path.is_file():
                 continue
             try:
@@ -82,9 +99,22 @@ def mbox_messages(path: Path) -> Iterator[Source]:
         number = 0
         while first:
             number += 1
+            came = day_of_from_line(first)
             content, first = mbox_message(file)
             place = f"message {number}"
-            yield Source(place, fault=_TOO_LONG) if content is None else Source(place, content)
+            yield Source(place, fault=_TOO_LONG) if content is None else Source(place, content, came=came)
+
+
+# A day as the line before a message has it: `Mon Jan  1 00:00:00 2024`, with a zone before or behind the year, or none.
+_FROM_DAY = re.compile(
+    rb" (Jan|Feb|Mar|Apr|May|Jun|Jul|Aug|Sep|Oct|Nov|Dec) +(\d\d?) +\d\d?:\d\d(?::\d\d)?(?: +[A-Z+-][A-Z0-9]*)* +(\d{4})\b"
+)
+
+
+def day_of_from_line(line: bytes) -> str:
+    """The day in the line before a message, if one is there."""
+    found = _FROM_DAY.search(line)
+    return day_of(f"{int(found[2])} {found[1].decode()} {found[3].decode()} 00:00:00") if found else ""
 
 
 def mbox_message(file: BinaryIO) -> Tuple[Optional[bytes], bytes]:
@@ -132,7 +162,8 @@ class Body:
     is_whole: bool = True
 
 
-def read_message(content: bytes) -> Message:
+def read_message(content: bytes, came: str = "") -> Message:
+    """What a message says. The day on which it came stands for that of a message without a date."""
     message, body = parsed(content)
     headers = {name: header(message, name) for name in SHOWN_HEADERS}
     lines = [f"{name}: {headers[name]}" for name in SHOWN_HEADERS if headers[name]]
@@ -142,7 +173,7 @@ def read_message(content: bytes) -> Message:
     encoded = cut(encoded, MAX_TEXT)
     seen = "\n".join(headers[name] for name in ("From", "Date", "Subject"))
     known_by = seen.encode("utf-8", "replace") if headers["Message-ID"] else encoded
-    return Message(f"{headers['Message-ID']} {digest_of(known_by)}", title_of(headers), encoded, is_whole)
+    return Message(f"{headers['Message-ID']} {digest_of(known_by)}", title_of(headers, came), encoded, is_whole)
 
 
 def parsed(content: bytes) -> Tuple[email.message.Message, Body]:
@@ -213,7 +244,7 @@ def body_of(part: email.message.Message) -> Body:
         bodies = [body_of(inner) for inner in parts]
         texts = [body.text for body in bodies if body.text]
         if kind == "message/rfc822":
-            texts = [f"Subject: {header(inner, 'Subject')}\n\n{body.text}" for inner, body in zip(parts, bodies)]
+            texts = [f"{headers_of(inner)}\n{body.text}" for inner, body in zip(parts, bodies)]
         return Body("\n\n".join(texts), all(body.is_whole for body in bodies))
     name = decoded_header(str(part.get_filename() or ""))
     # What says that it has parts and has none is read as a text.
@@ -221,10 +252,23 @@ def body_of(part: email.message.Message) -> Body:
     if not is_text or part.get_content_disposition() == "attachment":
         return Body(f"[attachment: {' '.join(name.split()) or 'without a name'}, {kind}]")
     text = decoded(payload_of(part), charset_of(part))
-    text = text.replace("\r\n", "\n").replace("\r", "\n")
+    text = text.replace("\r\n", "\n").replace("\r", "\n").lstrip(_MARK)
     if kind == "text/html":
         return Body(text_of_html(text[: 8 * MAX_TEXT]), len(text) <= 8 * MAX_TEXT)
     return Body(text)
+
+
+# A byte order mark, which is no sign of a text.
+_MARK = "\ufeff"
+
+# What is shown of a message within another.
+_INNER_HEADERS = ("From", "To", "Date", "Subject")
+
+
+def headers_of(message: email.message.Message) -> str:
+    """The headers of a message within another, each on a line."""
+    values = {name: header(message, name) for name in _INNER_HEADERS}
+    return "".join(f"{name}: {value}\n" for name, value in values.items() if value)
 
 
 def alternative(parts: List[email.message.Message]) -> Body:
@@ -247,14 +291,29 @@ def charset_of(part: email.message.Message) -> Optional[str]:
 
 _BLOCKS = set("br p div tr li ul ol table blockquote pre hr h1 h2 h3 h4 h5 h6".split(" "))
 _UNSEEN = {"script", "style", "title"}
-_TAG_NAME = re.compile(r"/?\s*([a-zA-Z][a-zA-Z0-9]*)")
-_IN_TAG = re.compile("[\"'>]")
+# The names of HTML, old and new. A `<` before another name is a sign of the text, as in `x <y`.
+_NAMES = (
+    _BLOCKS
+    | _UNSEEN
+    | set(
+        "a abbr acronym address applet area article aside audio b base basefont bdi bdo bgsound big blink body button canvas"
+        " caption center cite code col colgroup command content data datalist dd del details dfn dialog dir dl dt element em"
+        " embed fieldset figcaption figure font footer form frame frameset head header hgroup html i iframe image img input"
+        " ins isindex kbd keygen label legend link listing main map mark marquee math menu menuitem meta meter multicol nav"
+        " nextid nobr noembed noframes noscript object optgroup option output param picture plaintext portal progress q rb rp"
+        " rt rtc ruby s samp search section select shadow slot small source spacer span strike strong sub summary sup svg"
+        " tbody td template textarea tfoot th thead time track tt u var video wbr xmp xml".split(" ")
+    )
+)
+_TAG_NAME = re.compile(r"/?\s*([a-zA-Z][a-zA-Z0-9]*)([:-]?)")
+_IN_TAG = re.compile("[\"'<>]")
 
 
 def text_of_html(source: str) -> str:
     """The words of HTML, well formed or not, in time that grows with its length alone."""
     pieces: List[str] = []
     place = 0
+    patience = 8 * len(source)
     while place < len(source):
         start = source.find("<", place)
         if start < 0:
@@ -264,11 +323,15 @@ def text_of_html(source: str) -> str:
             place = end_of(source, "-->", start + 4)
             continue
         name = _TAG_NAME.match(source, start + 1)
-        if name is None and not source.startswith(("<!", "<?"), start):
+        ends, place = is_tag(source, start, name), start + 1
+        if ends:
+            ends, place = end_of_tag(source, start + 1, strict=name is not None and patience > 0)
+        if not ends:
+            # What was read in vain is read again, so there is an end to it.
+            patience -= place - start
             pieces.append(source[start : start + 1])
             place = start + 1
             continue
-        place = end_of_tag(source, start + 1)
         tag = name[1].lower() if name else ""
         if tag in _BLOCKS:
             pieces.append("\n")
@@ -285,15 +348,28 @@ def end_of(source: str, ending: str, place: int) -> int:
     return len(source) if found < 0 else found + len(ending)
 
 
-def end_of_tag(source: str, place: int) -> int:
-    """Behind a tag, whose values in quotes may hold a `>`. A quote that isn't closed is no quote."""
+def is_tag(source: str, start: int, name: Optional[Match[str]]) -> bool:
+    """What begins here is a tag by its name: one of HTML, or one with a colon or a hyphen, as others add them."""
+    if name is None:
+        return source.startswith(("<!", "<?"), start)
+    return name[1].lower() in _NAMES or name[2] != ""
+
+
+def end_of_tag(source: str, start: int, strict: bool) -> Tuple[bool, int]:
+    """Whether a tag ends, and the place behind it. Its values in quotes may hold a `>` and a `<`; a quote that isn't closed
+    is no quote. Where it is to be strict, another `<` before the `>` shows that it is no tag."""
+    place = start
     while True:
         found = _IN_TAG.search(source, place)
         if found is None:
-            return len(source)
+            return True, len(source)
         place = found.end()
         if found[0] == ">":
-            return place
+            return True, place
+        if found[0] == "<":
+            if strict:
+                return False, place
+            continue
         closing = source.find(found[0], place)
         if closing >= 0:
             place = closing + 1
@@ -310,15 +386,19 @@ def cleaned(text: str) -> str:
     return text.translate(_CONTROLS)
 
 
-def title_of(headers: Dict[str, str]) -> bytes:
+def title_of(headers: Dict[str, str], came: str = "") -> bytes:
     """The date and the subject, with no byte that a name mustn't have."""
     subject = as_name(headers["Subject"]) or "no subject"
-    return f"{day_of(headers['Date'])} {subject}".encode("utf-8", "replace")
+    day = day_of(headers["Date"])
+    return f"{came if day == _UNDATED and came else day} {subject}".encode("utf-8", "replace")
 
 
 def as_name(text: str) -> str:
     """A text on one line, without the signs that a name mustn't have. It may be empty, or longer than a name."""
     return " ".join(cleaned(text).replace("/", "-").split())
+
+
+_UNDATED = "undated"
 
 
 def day_of(date: str) -> str:
@@ -328,5 +408,5 @@ def day_of(date: str) -> str:
     except Exception:  # The parser raises many things over what strangers write.
         when = None
     if when is None or not (1 <= when[1] <= 12 and 1 <= when[2] <= 31 and 1900 <= when[0] <= 9999):
-        return "undated"
+        return _UNDATED
     return f"{when[0]:04}-{when[1]:02}-{when[2]:02}"

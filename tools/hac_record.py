@@ -12,30 +12,50 @@ import json
 import os
 from dataclasses import dataclass, field
 from pathlib import Path
-from typing import Any, Dict, Optional, Tuple
+from typing import Any, Dict, List, Optional, Set, Tuple
 
 from hac_client import joined, write_whole
 
-VERSION = 1
+VERSION = 2
 _TAIL = 4096
+# So many of the files that went are remembered.
+_REMOVED = 65_536
+
+
+@dataclass(frozen=True)
+class Seen:
+    """By what an unchanged file is known again: its size, its time, when its inode changed, and its inode. Where nothing
+    is known, or not enough, they are those of no file."""
+
+    size: int = -1
+    time: int = -1
+    changed: int = -1
+    inode: str = ""
+
+    def may_be(self, other: Seen) -> bool:
+        """It is the same file, or one like it: not just another that came to its place."""
+        return self.inode == other.inode or (self.size, self.time) == (other.size, other.time)
 
 
 @dataclass(frozen=True)
 class Brought:
-    """A file that hac-sync brought or was about to bring: the text in the store, and the file's size and time then."""
+    """A file that hac-sync brought or was about to bring: the text in the store, and by what the file was known then."""
 
     digest: Optional[str] = None  # None where a run ended before it was known.
-    size: int = -1
-    time: int = -1
+    seen: Seen = Seen()
+    birth: int = 0  # When the file was made, or 0: inodes are used again.
+
+    @property
+    def size(self) -> int:
+        return self.seen.size
 
 
 @dataclass(frozen=True)
 class LeftOut:
-    """A file that couldn't come, and its size and time then."""
+    """A file that couldn't come, and by what it was known then."""
 
     reason: str
-    size: int
-    time: int
+    seen: Seen
 
 
 @dataclass(frozen=True)
@@ -71,6 +91,10 @@ class Folder:
     files: Dict[bytes, Brought] = field(default_factory=dict)
     directories: Dict[bytes, Directory] = field(default_factory=dict)
     left_out: Dict[bytes, LeftOut] = field(default_factory=dict)
+    # What was removed or moved away, with the text that it had: in an older store that is put back it stands again.
+    removed: Dict[bytes, str] = field(default_factory=dict)
+    # Files that the store has below the place, and that came from nowhere that hac-sync knows.
+    others: List[bytes] = field(default_factory=list)
     stamp: Optional[Stamp] = None  # The store's, where a run ended with all of this in it.
 
 
@@ -118,6 +142,22 @@ def record_file(store: Path) -> Path:
     return store.with_name(store.name + ".sync")
 
 
+def mail_paths(store: Path) -> Set[bytes]:
+    """Where hac-mail brought messages."""
+    try:
+        lines = store.with_name(store.name + ".mail").read_bytes().split(b"\n")
+    except OSError:
+        return set()
+    paths: Set[bytes] = set()
+    for line in lines:
+        try:
+            _, path = json.loads(line)
+            paths.add(_bytes(path))
+        except (ValueError, TypeError, AttributeError):
+            continue  # A mark of the store, or no line of hac-mail's.
+    return paths
+
+
 def digest_of(text: bytes) -> str:
     return hashlib.blake2b(text, digest_size=16).hexdigest()
 
@@ -140,16 +180,18 @@ def write_record(store: Path, record: Record) -> None:
 
 
 def _parsed(plain: Any) -> Record:
-    if plain["version"] != VERSION:
+    if plain["version"] not in (1, VERSION):
         raise ValueError("another version")
     return Record(
         mark=Mark(*plain["mark"]) if plain["mark"] else None,
         folders={
             _bytes(place): Folder(
                 folder=_bytes(folder["folder"]),
-                files={_bytes(path): Brought(*brought) for path, brought in folder["files"].items()},
+                files={_bytes(path): _brought(*brought) for path, brought in folder["files"].items()},
                 directories={_bytes(path): Directory(*known) for path, known in folder["directories"].items()},
-                left_out={_bytes(path): LeftOut(*known) for path, known in folder["left_out"].items()},
+                left_out={_bytes(path): LeftOut(known[0], Seen(*known[1:])) for path, known in folder["left_out"].items()},
+                removed={_bytes(path): digest for path, digest in folder.get("removed", {}).items()},
+                others=[_bytes(path) for path in folder.get("others", [])],
                 stamp=Stamp(*folder["stamp"]) if folder["stamp"] else None,
             )
             for place, folder in plain["folders"].items()
@@ -164,16 +206,27 @@ def _plain(record: Record) -> Any:
         "folders": {
             _str(place): {
                 "folder": _str(folder.folder),
-                "files": {_str(path): [known.digest, known.size, known.time] for path, known in folder.files.items()},
-                "directories": {_str(path): [known.inode, known.made] for path, known in folder.directories.items()},
-                "left_out": {
-                    _str(path): [known.reason, known.size, known.time] for path, known in folder.left_out.items()
+                "files": {
+                    _str(path): [known.digest, *_seen(known.seen), known.birth] for path, known in folder.files.items()
                 },
+                "directories": {_str(path): [known.inode, known.made] for path, known in folder.directories.items()},
+                "left_out": {_str(path): [known.reason, *_seen(known.seen)] for path, known in folder.left_out.items()},
+                "removed": {_str(path): digest for path, digest in list(folder.removed.items())[-_REMOVED:]},
+                "others": [_str(path) for path in folder.others],
                 "stamp": [folder.stamp.length, folder.stamp.time, folder.stamp.inode] if folder.stamp else None,
             }
             for place, folder in record.folders.items()
         },
     }
+
+
+def _brought(digest: Optional[str], size: int, time: int, changed: int = -1, inode: str = "", birth: int = 0) -> Brought:
+    """A file as the record has it. One of version 1 says neither when its inode changed nor which it was."""
+    return Brought(digest, Seen(size, time, changed, inode), birth)
+
+
+def _seen(seen: Seen) -> Tuple[int, int, int, str]:
+    return seen.size, seen.time, seen.changed, seen.inode
 
 
 def _bytes(name: str) -> bytes:

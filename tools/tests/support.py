@@ -22,6 +22,9 @@ from hac_client import find_program, run_tool  # noqa: E402
 
 HAC = find_program()
 
+# A user without rights of its own, which root's tests become where rights are tested.
+NOBODY = 65534
+
 # A shell has what it runs in the background ignore this signal. The tools that the tests start are to hear it.
 signal.signal(signal.SIGINT, signal.default_int_handler)
 
@@ -42,7 +45,7 @@ def load(tool: str) -> ModuleType:
 class Run:
     """A run of a tool in a process of its own, which is forked: to start Python takes longer than most runs."""
 
-    def __init__(self, tool: str, *words: object, hac: Optional[Path] = None) -> None:
+    def __init__(self, tool: str, *words: object, hac: Optional[Path] = None, as_nobody: bool = False) -> None:
         module = load(tool)
         self._words = [tool, *map(str, words)]
         self._out, self._said = tempfile.TemporaryFile(), tempfile.TemporaryFile()
@@ -50,6 +53,10 @@ class Run:
         sys.stderr.flush()
         self.process = os.fork()
         if self.process == 0:
+            if as_nobody and os.geteuid() == 0:
+                os.setgroups([])
+                os.setgid(NOBODY)
+                os.setuid(NOBODY)
             self._become(module, hac or HAC)
 
     def kill(self) -> None:
@@ -97,9 +104,9 @@ class ToolTest(unittest.TestCase):
         self.store = self.made / "store"
 
     def run_tool(
-        self, tool: str, *words: object, status: int = 0, hac: Optional[Path] = None
+        self, tool: str, *words: object, status: int = 0, hac: Optional[Path] = None, as_nobody: bool = False
     ) -> "subprocess.CompletedProcess[bytes]":
-        ran = Run(tool, *words, hac=hac).ended()
+        ran = Run(tool, *words, hac=hac, as_nobody=as_nobody).ended()
         self.assertEqual(ran.returncode, status, (words, ran.stdout, ran.stderr))
         return ran
 

@@ -146,6 +146,64 @@ class Replies(ToolTest):
             self.assertTrue(hac.ls(b"/").ok)
 
 
+class WhatCannotBeOpened(ToolTest):
+    """Each is told for what it is, with hac's status for it, and nothing is left behind."""
+
+    def told(self, *words: object) -> str:
+        self.made.chmod(0o755)
+        before = sorted(self.made.rglob("*"))
+        ran = self.run_tool(*map(str, words), status=5, as_nobody=True)
+        self.assertEqual(sorted(self.made.rglob("*")), before)
+        self.assertEqual(ran.stdout, b"")
+        return ran.stderr.decode()
+
+    def test_a_mistyped_name(self) -> None:
+        for words in (("hac-view", self.store, self.made / "view"), ("hac-sync", self.made, self.made / "no/store")):
+            with self.subTest(words=words):
+                self.assertRegex(self.told(*words), "there is no (such file; `hac-shell --new`|folder)")
+
+    def test_a_folder(self) -> None:
+        self.store.mkdir()
+        self.assertIn(f"{self.store}: it is a folder, and no store", self.told("hac-view", self.store, self.made / "v"))
+
+    def test_a_pipe(self) -> None:
+        os.mkfifo(self.store)
+        self.assertIn("it is no regular file", self.told("hac-view", self.store, self.made / "v"))
+
+    def test_rights(self) -> None:
+        self.make_store("mkdir /a")
+        self.store.chmod(0o444)
+        if os.geteuid() != 0:
+            self.addCleanup(self.store.chmod, 0o600)
+        self.assertIn("you may only read it", self.told("hac-view", self.store, self.made / "v"))
+        self.store.chmod(0)
+        self.assertIn("you have no permission to read it", self.told("hac-view", self.store, self.made / "v"))
+
+    def test_a_folder_of_others(self) -> None:
+        (self.made / "notes").mkdir()
+        (self.made / "theirs").mkdir()
+        (self.made / "theirs").chmod(0o555)
+        told = self.told("hac-sync", self.made / "notes", self.made / "theirs/store")
+        self.assertIn(f"you have no permission to write in the folder {self.made / 'theirs'}", told)
+
+    def test_a_run_of_hac(self) -> None:
+        self.make_store("mkdir /a")
+        with subprocess.Popen([HAC, self.store], stdin=subprocess.PIPE, stdout=subprocess.PIPE) as other:
+            assert other.stdin is not None and other.stdout is not None
+            other.stdin.write(b"ls\n")
+            other.stdin.flush()
+            self.assertEqual(other.stdout.readline(), b"d a\n")
+            ran = self.run_tool("hac-view", self.store, self.made / "v", status=5)
+            self.assertIn(b"another run of hac has it open", ran.stderr)
+            other.stdin.close()
+
+    def test_a_full_disk(self) -> None:
+        """The disk is said to be full where it is: the system's word is taken, here in its place."""
+        self.make_store("mkdir /a")
+        with patch("os.statvfs", lambda path: type("Full", (), {"f_bavail": 0})):
+            self.assertIn("the disk is full", str(Stopped(self.store, 5, "hac: disk fault")))
+
+
 class Endings(ToolTest):
     def ending(self, hac: Path) -> Stopped:
         """How this program ends that is asked again and again."""
@@ -225,7 +283,7 @@ class Endings(ToolTest):
                 with Hac(self.store) as hac:
                     hac.ls(b"/")
             self.assertEqual(caught.exception.status, 5)
-            self.assertIn("another run may have it open", str(caught.exception))
+            self.assertIn("another run of hac has it open", str(caught.exception))
         self.assertEqual(self.ask("ls"), ["d a", "d b", "ok"])
 
     def test_no_program(self) -> None:

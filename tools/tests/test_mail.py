@@ -129,6 +129,20 @@ class Bodies(unittest.TestCase):
         )
         self.assertEqual(text, "plum\n\n[attachment: böse.png, image/png]\n\nSubject: inner\n\ncherry")
 
+    def test_a_message_within_another(self) -> None:
+        content = message(
+            b"From: outer@x", b"Subject: fwd", b"Content-Type: message/rfc822", b"",
+            b"From: inner@z", b"To: a@b", b"Date: 5 Mar 2024 10:00", b"Subject: pears", b"", b"words",
+        )  # fmt: skip
+        wanted = "From: inner@z\nTo: a@b\nDate: 5 Mar 2024 10:00\nSubject: pears\n\nwords\n"
+        self.assertEqual(text_of(content), f"From: outer@x\nSubject: fwd\n\n{wanted}")
+
+    def test_a_byte_order_mark(self) -> None:
+        for charset, mark in (("utf-8", b"\xef\xbb\xbf"), ("utf-16", b"")):
+            body = mark + "shopping list".encode(charset)
+            content = b"Content-Type: text/plain; charset=%s\n\n" % charset.encode() + body
+            self.assertEqual(text_of(content), "\nshopping list\n", charset)
+
     def test_parts_that_never_end(self) -> None:
         self.assertIn("apple", self.body(b"Content-Type: multipart/mixed; boundary=x", b"", b"--x", b"", b"apple"))
         self.assertIn("apple", self.body(b"Content-Type: multipart/mixed", b"", b"apple"))
@@ -161,16 +175,22 @@ class Html(unittest.TestCase):
             "<p>a</p><p>b<br/>c": "a\n\nb\nc",
             "<!DOCTYPE html><?x?>a": "a",
             "a<p": "a",
+            "price x <y and lostword here</p><p>next": "price x <y and lostword here\n\nnext",
+            "Bob <bob@example.com> wrote<br>x": "Bob <bob@example.com> wrote\nx",
+            "<a href='x<y'>b</a> 1 <b 2": "b 1",
+            "a <b and <i>c</i>": "a <b and c",
+            "<o:p>word</o:p><my-tag a=1>x": "wordx",
+            "<!DOCTYPE html [<!ENTITY x 'y'>]>z": "]>z",
             '<p class="x>a': "a",
         }.items():
             with self.subTest(source=source):
                 self.assertEqual(mail.text_of_html(source).strip("\n"), wanted)
 
     def test_time_grows_with_the_length(self) -> None:
-        began = time.monotonic()
-        for piece in ("<", "<!--", "<a '", '<a "', "<script>", "&", "<style></style>", "</", "<p\n"):
+        began = time.process_time()
+        for piece in ("<", "<!--", "<a '", '<a "', "<script>", "&", "<style></style>", "</", "<p\n", "<p '\" <b ", "<p \"<\" "):
             mail.text_of_html(piece * (300_000 // len(piece)))
-        self.assertLess(time.monotonic() - began, 20)
+        self.assertLess(time.process_time() - began, 20)
 
 
 class Mailboxes(MailTest):
@@ -179,29 +199,32 @@ class Mailboxes(MailTest):
         second = message(b"Subject: apple", b"Date: 5 Mar 2024 11:00", b"", b"two")
         self.assertEqual(self.bring(first), ["1 new, 0 known before, 0 refused"])
         self.assertEqual(self.bring(first, second), ["1 new, 1 known before, 0 refused"])
-        self.assertEqual(self.bring(first, second, first), ["0 new, 3 known before, 0 refused"])
+        told = "0 new, 2 known before, 1 copies of others, 0 refused"
+        self.assertEqual(self.bring(first, second, first), [told])
         self.assertEqual(sorted(self.mails()), ["2024-03-05 apple", "2024-03-05 apple (2)"])
         self.assertEqual(self.ask("find one"), ["f /mail/2024-03-05 apple", "ok"])
 
     def test_moved_and_removed_ones_do_not_come_again(self) -> None:
         messages = [message(b"Subject: s%d" % n, b"Message-ID: <%d@x>" % n, b"", b"") for n in range(3)]
         self.bring(*messages)
-        self.ask("mkdir /done", 'mv "/mail/undated s0" /done/x', 'rm "/mail/undated s1"')
+        self.ask("mkdir /done", 'mv "/mail/2026-11-28 s0" /done/x', 'rm "/mail/2026-11-28 s1"')
         self.assertEqual(self.bring(*messages), ["0 new, 3 known before, 0 refused"])
-        self.assertEqual(sorted(self.mails()), ["undated s2"])
+        self.assertEqual(sorted(self.mails()), ["2026-11-28 s2"])
 
     def test_the_same_message_id(self) -> None:
         """A copy with another end, as lists send it, is the same message. Another subject shows another message."""
         one = (b"From: a", b"Subject: apple", b"Message-ID: <1@x>", b"")
         other = (b"From: a", b"Subject: pear", b"Message-ID: <1@x>", b"")
         lines = self.bring(message(*one, b"body"), message(*one, b"body", b"list"), message(*other, b"body"))
-        self.assertEqual(lines, ["2 new, 1 known before, 0 refused"])
-        self.assertEqual(sorted(self.mails()), ["undated apple", "undated pear"])
+        reason = "it has the Message-ID, sender, date and subject of message 1, and another text; that one alone came"
+        told = [f"left out: message 2: {reason}", "2 new, 0 known before, 1 copies of others, 0 refused"]
+        self.assertEqual(lines, told)
+        self.assertEqual(sorted(self.mails()), ["2026-11-28 apple", "2026-11-28 pear"])
 
     def test_same_names(self) -> None:
         messages = [message(b"Message-ID: <%d@x>" % n, b"", b"") for n in range(12)]
         self.bring(*messages)
-        names = ["undated no subject", *(f"undated no subject ({n})" for n in range(2, 13))]
+        names = ["2026-11-28 no subject", *(f"2026-11-28 no subject ({n})" for n in range(2, 13))]
         self.assertEqual(sorted(self.mails()), sorted(names))
 
     def test_the_record_is_lost(self) -> None:
@@ -249,6 +272,65 @@ class Mailboxes(MailTest):
         self.assertEqual(sorted(self.tree()), ["/undated cur", "/undated new"])
         (folder / "cur/1:2,S").rename(folder / "cur/1:2,RS")
         self.assertEqual(self.run_tool("hac-mail", folder, self.store).stdout, b"0 new, 2 known before, 0 refused\n")
+
+    def test_the_folders_of_a_maildir(self) -> None:
+        """They stand in it, as `.Archive`, or below a folder that is none itself; mail in them has a path of its own."""
+        folder = self.made / "mail"
+        for place in ("", ".Archive", ".Archive.2024", "lists/rust", "cur/not-one"):
+            for part in ("cur", "new"):
+                (folder / place / part).mkdir(parents=True, exist_ok=True)
+            name = place.replace("/", "-") or "top"
+            (folder / place / "cur/1:2,S").write_bytes(b"Subject: %s\n\nx" % name.encode())
+        ran = self.run_tool("hac-mail", folder, self.store)
+        self.assertEqual(ran.stdout, b"4 new, 0 known before, 0 refused\n")
+        wanted = ["/undated .Archive", "/undated .Archive.2024", "/undated lists-rust", "/undated top"]
+        self.assertEqual(sorted(self.tree()), sorted(wanted))
+        large = folder / ".Archive/cur/2"
+        with open(large, "wb") as file:
+            file.truncate(67_108_865)
+        ran = self.run_tool("hac-mail", folder, self.store, status=1)
+        self.assertIn(b"refused: .Archive/cur/2: it has more than 67,108,864 bytes\n", ran.stdout)
+        large.unlink()
+        (folder / "cur").rename(folder / "other")
+        (folder / "lists").rename(self.made / "lists")
+        ran = self.run_tool("hac-mail", self.made / "lists", self.made / "second")
+        self.assertEqual(ran.stdout, b"1 new, 0 known before, 0 refused\n")
+
+    def test_the_day_of_the_mbox_line(self) -> None:
+        for line, day in {
+            "Mon Jan  1 00:00:00 2024": "2024-01-01",
+            "Mon Feb 29 23:59 2024": "2024-02-29",
+            "Mon Mar 31 00:00:00 +0200 2024": "2024-03-31",
+            "Mon Apr 30 00:00:00 MEST 2024": "2024-04-30",
+            "Mon Nix  1 00:00:00 2024": "undated",
+            "Mon Jan 32 00:00:00 2024": "undated",
+        }.items():
+            box = self.made / "box"
+            box.write_bytes(f"From a@x {line}\nSubject: s\n\nx\n".encode())
+            (source,) = mail.messages_of(box)
+            self.assertEqual(mail.read_message(source.content, source.came).name.decode(), f"{day} s", line)
+        dated = b"Date: 5 Mar 2023 10:00\nSubject: s\n\nx\n"
+        self.assertEqual(mail.read_message(dated, "2024-01-01").name, b"2023-03-05 s")
+        self.bring(message(b"Subject: s", b"", b"x"))
+        self.assertEqual(sorted(self.mails()), ["2026-11-28 s"])
+
+    def test_a_text_that_is_cut_is_told(self) -> None:
+        lines = self.bring(message(b"Subject: c", b"", b"w " * 600_000 + b"lastword"), message(b"Subject: d", b"", b"x"))
+        reason = "its text has more than 1,048,576 bytes; what is behind them isn't in the store"
+        self.assertEqual(
+            lines, [f"cut: message 1 (2026-11-28 c): {reason}", "2 new, 0 known before, 0 refused"]
+        )
+
+    def test_many_are_told_by_their_reasons(self) -> None:
+        heads = (b"From: a", b"Subject: s", b"Message-ID: <1@x>", b"")
+        lines = self.bring(*(message(*heads, b"text %d" % count) for count in range(20)))
+        self.assertEqual(len(lines), 2)
+        self.assertIn("left out: 19 places, as message 10: it has the Message-ID", lines[0])
+        self.assertEqual(lines[1], "1 new, 0 known before, 19 copies of others, 0 refused")
+        box = self.made / "box"
+        self.assertEqual(self.run_tool("hac-mail", box, self.store, "/mail", "--quiet").stdout, b"")
+        ran = self.run_tool("hac-mail", box, self.store, "/mail", "--list")
+        self.assertEqual(len(ran.stdout.splitlines()), 20)
 
     def test_refused_ones_are_told(self) -> None:
         self.make_store("write /mail x")

@@ -5,14 +5,21 @@ from __future__ import annotations
 import ast
 import os
 import re
+import signal
 import subprocess
 import sys
+import tempfile
 import textwrap
 import unittest
 
 from tests.support import HAC, TOOLS, ToolTest
 
-NAMES = ("hac-shell", "hac-sync", "hac-mail", "hac-view", "hac-catalogue")
+from hac_client import VERSION
+
+NAMES = ("hac-shell", "hac-sync", "hac-mail", "hac-find", "hac-view", "hac-mount", "hac-web", "hac-catalogue")
+
+# What a module of ours uses besides the standard library.
+LIBRARIES = {"hac_mount_kernel.py": {"pyfuse3", "trio"}}
 
 
 class Pages(unittest.TestCase):
@@ -33,6 +40,29 @@ class Pages(unittest.TestCase):
                 self.assertEqual((ran.returncode, ran.stdout), (2, b""))
                 self.assertTrue(ran.stderr.startswith(f"usage: {tool} ".encode()))
 
+    def test_an_option_that_there_is_not_is_told_first(self) -> None:
+        for tool in NAMES:
+            for option in ("--nonsense", "--nonsense=3", "-z"):
+                ran = subprocess.run([TOOLS / tool, option], stdin=subprocess.DEVNULL, capture_output=True)
+                self.assertIn(f"there is no option {option.partition('=')[0]}".encode(), ran.stderr)
+            ran = subprocess.run([TOOLS / tool, "--version"], stdin=subprocess.DEVNULL, capture_output=True)
+            self.assertEqual((ran.returncode, ran.stdout), (0, f"{tool} {VERSION}\n".encode()))
+
+    def test_control_c_while_a_tool_begins(self) -> None:
+        """Another argparse, which the tools take in before they run, sends them the signal."""
+        with tempfile.TemporaryDirectory() as made:
+            with open(f"{made}/argparse.py", "w") as stand_in:
+                stand_in.write("import os, signal\nos.kill(os.getpid(), signal.SIGINT)\n")
+            for tool in NAMES:
+                with self.subTest(tool=tool):
+                    ran = subprocess.run(
+                        [sys.executable, TOOLS / tool, "--help"],
+                        stdin=subprocess.DEVNULL,
+                        capture_output=True,
+                        env={**os.environ, "PYTHONPATH": made},
+                    )
+                    self.assertEqual((ran.returncode, ran.stdout, ran.stderr), (-signal.SIGINT, b"", b""))
+
     def test_python_3_8_reads_them(self) -> None:
         files = [TOOLS / tool for tool in NAMES] + sorted(TOOLS.glob("*.py")) + sorted((TOOLS / "tests").glob("*.py"))
         for file in files:
@@ -50,8 +80,9 @@ class Pages(unittest.TestCase):
                     names = [alias.name for alias in node.names]
                 elif isinstance(node, ast.ImportFrom):
                     names = [node.module or ""]
+                known = own | set(sys.stdlib_module_names) | LIBRARIES.get(file.name, set())
                 for name in names:
-                    self.assertIn(name.partition(".")[0], own | set(sys.stdlib_module_names), f"{file.name}: {name}")
+                    self.assertIn(name.partition(".")[0], known, f"{file.name}: {name}")
 
 
 class FirstFolder(ToolTest):

@@ -109,7 +109,7 @@ class Session(ToolTest):
         self.assertEqual(terminal.typed("ls /a"), "ls /a\nf x\nok\n")
         self.assertEqual(terminal.typed("cat /a/x"), "cat /a/x\n= apple\\nx\\x1b[31m\nok\n")
         self.assertEqual(terminal.typed("rm /a"), "rm /a\nno not-file /a\n")
-        self.assertEqual(terminal.typed("fly"), "fly\nno bad-line\n")
+        self.assertEqual(terminal.typed("fly").split("\n")[:2], ["fly", "no bad-line"])
         self.assertEqual(terminal.typed(""), "\n")
         self.assertEqual(terminal.typed("# note"), "# note\n")
         self.assertEqual(terminal.typed("index"), "index\nok\n")
@@ -134,7 +134,7 @@ class Session(ToolTest):
         self.assertEqual(terminal.typed("@bob find a b"), f"@bob find a b\n{' ' * (len(PROMPT) + 12)}^ no bad-query 3\n")
         self.assertIn("use `edit PATH`", terminal.typed("@bob put x 3"))
         for line in ("@bob exit", "@bob edit x", "@bob help", "@bob", "@b! ls"):
-            self.assertEqual(terminal.typed(line), f"{line}\nno bad-line\n")
+            self.assertEqual(terminal.typed(line).split("\n")[:2], [line, "no bad-line"])
 
     def test_line_editing_and_history(self) -> None:
         terminal = self.begun("mkdir /a")
@@ -162,7 +162,7 @@ class Session(ToolTest):
         self.assertTrue(terminal.typed('ls "/notes/t\t"').endswith("f x\nok\n"))
         self.assertTrue(terminal.typed("ls /notes/t\t\"").endswith("f x\nok\n"))
         self.assertTrue(terminal.typed('cat "/no\tto\tx\t').endswith("= apple\nok\n"))
-        self.assertTrue(terminal.typed("find {/no\t} AND pear").endswith("\nok\n"))
+        self.assertIn("\nok\n", terminal.typed("find {/no\t} AND pear"))
         self.assertTrue(terminal.typed("cd no\t", "store:/notes> ").endswith("\nok\n"))
         self.assertTrue(terminal.typed("cat mo\t", "store:/notes> ").endswith("= pear\nok\n"))
 
@@ -189,6 +189,21 @@ class Session(ToolTest):
         self.assertIn("limit texts: all texts", terminal.typed("help limit"))
         self.assertIn("no such command or cause", terminal.typed("help fly"))
         self.assertIn("\nsmkdir PATH QUERY", terminal.typed("help"))
+
+    def test_what_to_say_instead(self) -> None:
+        terminal = self.begun("write /a apple")
+        for line, said in {
+            "rm -r /a": "(`rm` takes one file and no options; a tree goes file by file, and each empty directory by `rmdir`)",
+            "cp /a /b": "(nothing copies a file; `edit` a new path, or `write` it)",
+            "grep apple": "(`find QUERY` lists the files that have a word, as in `find apple*`; hac-find shows their lines)",
+            "apple": "(`help` lists the commands; `find WORD` looks for a word)",
+            "mv /a": "(it is said as `mv PATH PATH`; a path with spaces stands in quotes)",
+        }.items():
+            self.assertEqual(terminal.typed(line).replace("\n", ""), f"{line}no bad-line{said}")
+        waits = "(1 files are to be indexed: `find` looks at texts as they were indexed; say `index`)"
+        self.assertEqual(terminal.typed("find apple"), f"find apple\nok\n{waits}\n")
+        terminal.typed("index")
+        self.assertEqual(terminal.typed("find apple"), "find apple\nf /a\nok\n")
 
     def test_edit(self) -> None:
         editor = self.script("editor", 'cat "$1" >>"$SEEN"', 'printf "more\\n" >>"$1"')
@@ -250,7 +265,7 @@ class Session(ToolTest):
         terminal = self.begin("--tick=0")
         terminal.until(PROMPT)
         terminal.typed("write /d apple")
-        self.assertEqual(terminal.typed("find apple"), "find apple\nf /a\nf /b\nf /c\nok\n")
+        self.assertIn("find apple\nf /a\nf /b\nf /c\nok\n(1 files are to be indexed", terminal.typed("find apple"))
         self.assertEqual(terminal.end(), 0)
 
     def test_an_edited_text_is_not_lost(self) -> None:
@@ -300,10 +315,39 @@ class Session(ToolTest):
         terminal.until(PROMPT)
         self.assertEqual(terminal.typed("ls"), "ls\nok\n")
 
+    def test_control_c_drops_an_answer_alone(self) -> None:
+        """A hac that thinks for long about `ls /slow`: the prompt is back at once, and later answers are their own."""
+        slow = self.made / "slow-hac"
+        slow.write_text(_SLOW.format(python=sys.executable, hac=str(HAC)))
+        slow.chmod(0o755)
+        self.make_store("mkdir /slow", "write /slow/a x", "mkdir /b")
+        terminal = self.begin(hac=slow)
+        terminal.until(PROMPT)
+        os.write(terminal.keys, b"ls /slow\n")
+        terminal.until("ls /slow\r\n")
+        time.sleep(0.3)
+        began = time.monotonic()
+        os.write(terminal.keys, b"\x03")
+        self.assertIn("the answer is dropped", terminal.until(PROMPT))
+        self.assertLess(time.monotonic() - began, 1.5)
+        self.assertEqual(terminal.typed("ls"), "ls\nd b\nd slow\nok\n")
+        self.assertEqual(terminal.typed("ls /none"), "ls /none\nno no-path /none\n")
+        self.assertEqual(terminal.end(), 0)
+
+    def test_control_c_is_the_editors(self) -> None:
+        editor = self.script("editor", "trap 'echo heard' INT", "echo ready", "sleep 1", 'echo apple > "$1"')
+        terminal = self.begun(EDITOR=str(editor))
+        os.write(terminal.keys, b"edit /a\n")
+        terminal.until("ready\r\n")
+        os.write(terminal.keys, b"\x03")
+        self.assertIn("heard", terminal.until(PROMPT))
+        self.assertEqual(terminal.typed("cat /a"), "cat /a\n= apple\\n\nok\n")
+
     def test_stores_that_cannot_be_opened(self) -> None:
         terminal = self.begin()
-        self.assertIn("there is no such file", terminal.until("file\r\n"))
+        self.assertIn("there is no such file; `hac-shell --new` makes a new store", terminal.until("new store\r\n"))
         self.assertEqual(terminal.end(""), 5)
+        self.assertEqual(list(self.made.iterdir()), [self.made / "home"])
         self.store.write_bytes(b"x")
         terminal = self.begin()
         self.assertIn("not a store at byte 0", terminal.until("to it.\r\n"))
@@ -333,6 +377,23 @@ class Session(ToolTest):
             faulty = [*words, "--tick", number, self.store]
             ran = subprocess.run(faulty, stdin=subprocess.DEVNULL, capture_output=True, env=given)
             self.assertEqual((ran.returncode, ran.stdout), (2, b""), number)
+
+
+_SLOW = """\
+#!{python}
+import os, subprocess, sys, time
+
+if "--new" in sys.argv:
+    os.execv({hac!r}, [{hac!r}, *sys.argv[1:]])
+run = subprocess.Popen([{hac!r}, *sys.argv[1:]], stdin=subprocess.PIPE)
+for line in sys.stdin.buffer:
+    if b"/slow" in line:
+        time.sleep(3)
+    run.stdin.write(line)
+    run.stdin.flush()
+run.stdin.close()
+sys.exit(run.wait())
+"""
 
 
 class Lines(unittest.TestCase):

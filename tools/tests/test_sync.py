@@ -6,6 +6,7 @@ import json
 import os
 import random
 import shutil
+import signal
 import subprocess
 import sys
 import time
@@ -15,6 +16,8 @@ from typing import Dict, List
 from unittest.mock import patch
 
 from tests.support import HAC, Run, ToolTest, load
+
+from hac_client import Hac
 
 sync = load("hac-sync")
 
@@ -44,7 +47,8 @@ class SyncTest(ToolTest):
     def sync(self, *options: object, status: int = 0) -> List[str]:
         """The lines that a sync writes."""
         ran = self.run_tool("hac-sync", self.folder, self.store, *options, status=status)
-        return (ran.stdout + ran.stderr).decode().splitlines()
+        lines = (ran.stdout + ran.stderr).decode().splitlines()
+        return [line for line in lines if not line.startswith("new store ")]
 
     def wanted(self) -> Dict[str, str]:
         """The tree that the folder's text files make, where all of them can come."""
@@ -102,6 +106,7 @@ class WhatComes(SyncTest):
         self.write("a")
         self.write("b\x01")
         self.write("c", b"\0")
+        time.sleep(0.05)  # What was changed just now is read again.
         told = self.sync("/x")
         no_hac = self.script("no-hac", "exit 5")
         words = (self.folder, self.store, "/x")
@@ -123,6 +128,81 @@ class WhatComes(SyncTest):
         os.utime(file, ns=(then, then))
         self.sync()
         self.assertEqual(self.tree(), {"/a": "two"})
+
+    def test_replaced_by_another_of_the_same_size_and_time(self) -> None:
+        then = (1_704_067_200_000_000_000, 1_704_067_200_000_000_000)
+        for name, text in (("current", b"first 1 note"), ("old", b"other 2 text"), ("a", b"1"), ("b", b"2")):
+            os.utime(self.write(name, text), ns=then)
+        self.sync()
+        (self.folder / "old").rename(self.folder / "current")
+        (self.folder / "a").rename(self.folder / "c")
+        (self.folder / "b").rename(self.folder / "a")
+        (self.folder / "c").rename(self.folder / "b")
+        self.assertIn("0 new, 3 changed, 0 renamed, 1 removed", self.sync()[-1])
+        self.assertEqual(self.tree(), {"/current": "other 2 text", "/a": "2", "/b": "1"})
+        self.assertIn("0 new, 0 changed, 0 renamed, 0 removed", self.sync("--check")[-1])
+
+    def test_a_record_of_version_1(self) -> None:
+        """It knows neither inodes nor when they changed, so each file is read once, and nothing is written."""
+        self.write("a", b"one")
+        self.write("b", b"\0")
+        self.sync()
+        record = json.loads((self.made / "store.sync").read_bytes())
+        folder = record["folders"]["/"]
+        folder["files"] = {path: known[:3] for path, known in folder["files"].items()}
+        folder["left_out"] = {path: known[:3] for path, known in folder["left_out"].items()}
+        del folder["removed"], folder["others"]
+        (self.made / "store.sync").write_text(json.dumps({**record, "version": 1}))
+        before = self.store.read_bytes()
+        self.assertIn("1 files in the store: 0 new, 0 changed, 0 renamed, 0 removed; 1 left out", self.sync()[-1])
+        self.assertEqual(self.store.read_bytes(), before)
+        self.write("a", b"two")
+        self.assertIn("1 changed", self.sync()[-1])
+
+    def test_marks_of_an_encoding(self) -> None:
+        """The first word of a text that begins with a byte order mark is found, and what is in UTF-16 is a text."""
+        self.write("windows", b"\xef\xbb\xbfShopping list\n")
+        self.write("little", "Shopping \u00e4pfel\n".encode("utf-16"))
+        self.write("big", b"\xfe\xff" + "Shopping birnen\n".encode("utf-16-be"))
+        self.write("broken", b"\xff\xfe\x00\xd8a\0")
+        self.assertIn("3 new, 0 changed, 0 renamed, 0 removed; 1 left out", self.sync()[-1])
+        self.assertEqual(self.ask("find shopping"), ["f /big", "f /little", "f /windows", "ok"])
+        self.assertEqual(
+            self.tree(),
+            {"/windows": "Shopping list\\n", "/little": "Shopping \u00e4pfel\\n", "/big": "Shopping birnen\\n"},
+        )
+        for option in ((), ("--check",)):
+            self.assertIn("0 new, 0 changed, 0 renamed, 0 removed; 1 left out", self.sync(*option)[-1])
+        (self.folder / "little").rename(self.folder / "little2")
+        self.assertIn("0 new, 0 changed, 1 renamed", self.sync()[-1])
+
+    def test_the_room_of_a_store_is_told(self) -> None:
+        self.write("a", b"12345")
+        self.write("b", b"123")
+        ran = self.run_tool("hac-sync", self.folder, self.store)
+        self.assertEqual(
+            ran.stdout.decode().splitlines()[0],
+            "new store store: it takes 67,108,864 bytes of text and 65,536 files; the folder has 2 files of 8 bytes",
+        )
+
+    def test_what_finds_no_room_is_told_before(self) -> None:
+        """Stand-ins for the limits, so that the folder needn't be large."""
+        for name in ("a", "sub/b", "sub/c", "tall/d", "tall/e", "z"):
+            self.write(name, b"12345")
+        told = "A store takes 67,108,864 bytes of text and 65,536 files, so 3 would stay out: tall/ (2), z (1)."
+        with patch.object(sync, "MAX_TEXTS", 17):
+            lines = self.sync()
+        self.assertIn(f"no room: 6 files are to be written, of 30 bytes. {told}", lines[0])
+        self.write("z", b"123456")
+        with patch.object(sync, "MAX_TEXTS", 31):
+            self.assertNotIn("no room", self.sync()[0])
+        (self.folder / "z").write_bytes(b"1234567")
+        with patch.object(sync, "MAX_TEXTS", 31):
+            self.assertIn("no room: 1 files are to be written, of 7 bytes", self.sync()[0])
+        self.write("y", b"1")
+        self.ask("write /mine x")
+        with patch.object(sync, "MAX_ITEMS", 7):
+            self.assertIn("so 1 would stay out: y (1)", self.sync()[0])
 
     def test_below_a_place(self) -> None:
         self.write("a")
@@ -186,6 +266,7 @@ class WhatCannotCome(SyncTest):
         os.mkfifo(self.folder / "pipe")
         self.write("bad\nname")
         self.write("sub\x7f/inner")
+        time.sleep(0.05)  # What was changed just now is read again.
         self.assertEqual(
             self.sync(),
             [
@@ -204,6 +285,30 @@ class WhatCannotCome(SyncTest):
         before = (self.made / "store.sync").read_bytes()
         self.assertEqual(len(self.sync()), 9)
         self.assertEqual((self.made / "store.sync").read_bytes(), before)
+
+    def test_many_are_told_by_their_reasons(self) -> None:
+        for count in range(30):
+            self.write(f"f{count:02}", b"\0")
+        (self.folder / "link").symlink_to("f00")
+        summary = "0 files in the store: 0 new, 0 changed, 0 renamed, 0 removed; 31 left out, 0 refused"
+        told = [
+            "left out: link: it's a symbolic link",
+            "left out: 30 places, as f00: it isn't text (--list names all)",
+            summary,
+        ]
+        self.assertEqual(self.sync(), told)
+        self.assertEqual(self.sync(), told)
+        self.assertEqual(self.sync("--quiet"), [])
+        self.assertEqual(
+            self.sync("--list"),
+            [f"left out: f{count:02}: it isn't text" for count in range(30)] + [told[0], summary],
+        )
+
+    def test_what_was_refused_is_told_to_the_quiet(self) -> None:
+        self.make_store("write /a other")
+        self.write("a")
+        lines = self.sync("--quiet", status=1)
+        self.assertEqual(lines, ["refused: a: the store has another text there, which hac-sync didn't bring"])
 
     def test_what_cannot_come_any_more_stays(self) -> None:
         self.write("a")
@@ -344,6 +449,31 @@ class Renames(SyncTest):
         self.sync()
         self.assertEqual(self.tree(), {"/a": "an apple"})
 
+    def test_a_file_that_was_renamed_and_changed_keeps_its_marks(self) -> None:
+        self.write("a.txt", b"apple pie\n")
+        self.write("sub/c.txt", b"apple\n")
+        if not sync.birth_of(bytes(self.folder / "a.txt")):
+            self.skipTest("this file system doesn't say when a file was made")
+        self.sync()
+        self.ask("smkdir /ap apple", "srm /a.txt /ap")
+        (self.folder / "a.txt").rename(self.folder / "b.txt")
+        with open(self.folder / "b.txt", "ab") as file:
+            file.write(b"more apple\n")
+        self.assertIn("0 new, 1 changed, 1 renamed, 0 removed", self.sync()[-1])
+        self.assertEqual(self.ask("sls /ap"), ["x /b.txt", "t /sub/c.txt", "ok"])
+        self.assertEqual(self.tree(), {**self.wanted(), "/ap": "s"})
+
+    def test_another_file_with_the_same_inode_has_no_marks(self) -> None:
+        self.write("a.txt", b"apple pie\n")
+        self.sync()
+        self.ask("smkdir /ap apple", "srm /a.txt /ap")
+        inode = (self.folder / "a.txt").stat().st_ino
+        (self.folder / "a.txt").unlink()
+        self.write("b.txt", b"another apple\n")
+        with patch.object(sync, "birth_of", lambda path: 12345):
+            self.assertIn("1 new, 0 changed, 0 renamed, 1 removed", self.sync()[-1])
+        self.assertEqual(self.ask("sls /ap"), ["t /b.txt", "ok"], inode)
+
     def test_directories_move_with_what_is_theirs(self) -> None:
         for count in range(5):
             self.write(f"old/sub/f{count}", b"apple %d" % count)
@@ -457,6 +587,56 @@ class OtherHands(SyncTest):
         self.store.write_bytes(older)
         self.assertIn("1 changed", self.sync()[-1])
         self.assertEqual(self.tree(), {"/a": "two", "/b": "one"})
+
+    def test_what_went_does_not_come_back_with_an_older_store(self) -> None:
+        for name in ("1", "2", "3", "sub/4", "sub/deep/5"):
+            self.write(name, b"note %s orph" % name.encode())
+        self.make_store("write /mine x")
+        self.sync()
+        older = self.store.read_bytes()
+        (self.folder / "1").unlink()
+        (self.folder / "3").rename(self.folder / "3b")
+        shutil.rmtree(self.folder / "sub")
+        self.sync()
+        self.store.write_bytes(older)
+        self.ask("sln /3 /s", "write /2 by hand")
+        self.assertIn("2 files in the store: 0 new, 1 changed, 1 renamed, 3 removed", self.sync()[-1])
+        self.assertEqual(self.tree(), {**self.wanted(), "/mine": "x"})
+        # A text that was changed in the older store is no longer what came.
+        self.store.write_bytes(older)
+        self.ask("write /1 mine now")
+        self.sync()
+        self.assertEqual(self.tree(), {**self.wanted(), "/mine": "x", "/1": "mine now"})
+
+    def test_check_removes_what_came_once(self) -> None:
+        self.write("a", b"one")
+        self.write("b", b"two")
+        self.sync()
+        (self.folder / "a").unlink()
+        self.sync()
+        self.ask("write /a one")
+        self.assertIn("only in the store: a: ", self.sync()[0])
+        self.sync("--check")
+        self.assertEqual(self.tree(), {"/b": "two"})
+
+    def test_what_the_store_alone_has_is_told(self) -> None:
+        self.write("a", b"one")
+        self.write("gone/b", b"two")
+        self.run_tool("hac-sync", self.folder, self.store, "/notes")
+        box = self.made / "box"
+        box.write_bytes(b"From a Mon Jan  1 00:00:00 2024\nSubject: s\n\nmail\n")
+        self.run_tool("hac-mail", box, self.store, "/notes/mail")
+        (self.made / "store.sync").unlink()
+        shutil.rmtree(self.folder / "gone")
+        told = self.sync("/notes")
+        self.assertIn("only in the store: gone/b: ", told[0])
+        self.assertEqual(self.sync("/notes"), [told[0], told[1].replace("1 files", "1 files")])
+        self.sync("/notes", "--check")
+        self.assertEqual(self.tree()["/notes/gone/b"], "two")
+        told = self.sync("/notes", "--delete")
+        self.assertEqual(told[0], "removed: gone/b: the folder hasn't it, and hac-sync didn't bring it")
+        self.assertEqual(self.ask("ls /notes", "ls /notes/gone"), ["f a", "d gone", "d mail", "ok", "ok"])
+        self.assertEqual(len(self.sync("/notes")), 1)
 
     def test_the_record_is_lost_or_damaged(self) -> None:
         self.write("a", b"one")
@@ -575,16 +755,47 @@ class Stops(SyncTest):
         self.assertFalse(self.store.exists())
 
 
+class Watched(SyncTest):
+    def test_it_goes_on_until_a_signal(self) -> None:
+        self.write("a", b"apple")
+        for number in (signal.SIGTERM, signal.SIGINT, signal.SIGHUP):
+            run = Run("hac-sync", self.folder, self.store, "--watch")
+            try:
+                self.write("b", b"pear %d" % number)
+                self.until({"/a": "apple", "/b": f"pear {number:d}"})
+                (self.folder / "b").rename(self.folder / "c")
+                self.until({"/a": "apple", "/c": f"pear {number:d}"})
+                (self.folder / "c").unlink()
+                self.until({"/a": "apple"})
+            finally:
+                os.kill(run.process, number)
+                ran = run.ended()
+            self.assertEqual(ran.returncode, 0)
+            self.assertIn("1 files in the store: 0 new, 0 changed, 0 renamed, 1 removed", ran.stdout.decode().splitlines()[-1])
+
+    def until(self, wanted: Dict[str, str]) -> None:
+        """Waits until the store has these files."""
+        end = time.monotonic() + 60
+        found = None
+        while found != wanted:
+            self.assertLess(time.monotonic(), end, found)
+            time.sleep(0.3)
+            if self.store.exists():
+                with Hac(self.store) as hac:
+                    paths = [line[1:].replace(b" ", b"/", 1) for line in hac.ls(b"/").lines]
+                    found = {path.decode(): hac.cat(path).text.decode() for path in paths}
+
+
 class TheRecord(SyncTest):
     def test_a_path_stands_there_before_the_store_has_it(self) -> None:
         """Else a run that is killed would leave a file that none takes for its own."""
         self.write("a")
         self.run_tool("hac-sync", self.folder, self.store, status=7, hac=self.ends_after(1, 7, "hac: out of memory"))
         self.assertEqual(self.tree(), {})
-        self.run_tool("hac-sync", self.folder, self.store, status=7, hac=self.ends_after(3, 7, "hac: out of memory"))
+        self.run_tool("hac-sync", self.folder, self.store, status=7, hac=self.ends_after(4, 7, "hac: out of memory"))
         self.assertEqual(self.tree(), {"/a": "an apple\\n"})
         record = json.loads((self.made / "store.sync").read_bytes())
-        self.assertEqual(record["folders"]["/"]["files"], {"a": [None, -1, -1]})
+        self.assertEqual(record["folders"]["/"]["files"], {"a": [None, -1, -1, -1, "", 0]})
         (self.folder / "a").unlink()
         self.write("b", b"pear")
         self.sync()

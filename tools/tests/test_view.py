@@ -18,8 +18,8 @@ class ViewTest(ToolTest):
         super().setUp()
         self.folder = self.made / "view"
 
-    def view(self, status: int = 0) -> List[str]:
-        ran = self.run_tool("hac-view", self.store, self.folder, status=status)
+    def view(self, *options: str, status: int = 0) -> List[str]:
+        ran = self.run_tool("hac-view", self.store, self.folder, *options, status=status)
         return (ran.stdout + ran.stderr).decode().splitlines()
 
     def seen(self) -> Dict[str, str]:
@@ -189,9 +189,76 @@ class OtherHands(ViewTest):
         (self.folder / "s/b").symlink_to("/nowhere")
         (self.folder / "s/mine").write_text("mine")
         self.ask("rmdir /s")
-        lines = self.view(status=1)
-        self.assertEqual(lines[0], "left: s: it isn't removed: Directory not empty")
+        told = [
+            "left: s: it isn't removed: Directory not empty",
+            "left: s/a: the copy was changed; --home brings the change to the store",
+            "left: s/b: something that hac-view didn't make stands there",
+        ]
+        self.assertEqual(self.view(status=1)[:-1], told)
+        self.assertEqual(self.view(status=1)[:-1], told)
         self.assertEqual(self.seen(), {"s": "d", "s/a": "my edit", "s/b": "-> /nowhere", "s/mine": "mine"})
+        lines = self.view("--home", status=1)
+        self.assertIn("left: s/a: its text isn't in this directory any more; bring it home by hand", lines)
+        (self.folder / "s/a").unlink()
+        (self.folder / "s/b").unlink()
+        (self.folder / "s/mine").unlink()
+        self.assertEqual(self.view(), ["0 made, 1 removed, 0 unchanged, 0 left"])
+
+    def test_a_file_in_place_of_a_link_is_told_and_brought_home(self) -> None:
+        """As `sed -i` and some editors leave it."""
+        notes = self.made / "notes"
+        notes.mkdir()
+        for name in ("a", "b", "c"):
+            (notes / name).write_text(f"apple {name}\n")
+        (notes / "a").chmod(0o640)
+        self.run_tool("hac-sync", notes, self.store, "/notes")
+        self.ask("smkdir /s apple", "write /own apple here", "index")
+        self.view()
+        subprocess.run(["sed", "-i", "s/apple/red apple/", self.folder / "s/a"], check=True)
+        (self.folder / "s/own").write_text("apple there")
+        lines = self.view(status=1)
+        self.assertEqual(
+            lines[:2],
+            [
+                f"left: s/a: a file stands there in place of the link; --home brings it to {notes}/a",
+                "left: s/own: the copy was changed; --home brings the change to the store",
+            ],
+        )
+        self.assertEqual((notes / "a").read_text(), "apple a\n")
+        lines = self.view("--home")
+        self.assertIn(f"brought home: s/a: to {notes}/a", lines)
+        self.assertIn("brought home: s/own: to /own", lines)
+        self.assertEqual(((notes / "a").read_text(), (notes / "a").stat().st_mode & 0o777), ("red apple a\n", 0o640))
+        self.assertEqual(os.readlink(self.folder / "s/a"), f"{notes}/a")
+        self.assertEqual(self.ask("cat /own"), ["= apple there", "ok"])
+        self.assertEqual(self.view(), ["0 made, 0 removed, 5 unchanged, 0 left"])
+        self.run_tool("hac-sync", notes, self.store, "/notes")
+        self.assertEqual(self.ask("find red"), ["f /notes/a", "ok"])
+
+    def test_nothing_is_brought_over_a_later_change(self) -> None:
+        notes = self.made / "notes"
+        notes.mkdir()
+        (notes / "a").write_text("apple")
+        self.run_tool("hac-sync", notes, self.store, "/notes")
+        self.ask("smkdir /s apple", "write /own apple here", "index")
+        self.view()
+        (self.folder / "s/a").unlink()
+        (self.folder / "s/a").write_text("apple in the view")
+        (self.folder / "s/own").write_text("apple in the view")
+        (notes / "a").write_text("apple in the folder")
+        os.utime(notes / "a", ns=(2**62, 2**62))
+        self.ask("write /own apple in the store", "index")
+        lines = self.view("--home", status=1)
+        self.assertEqual(
+            lines[:2],
+            [
+                f"left: s/a: {notes}/a was changed later than this; bring them together by hand",
+                "left: s/own: /own was changed in the store too; bring them together by hand",
+            ],
+        )
+        self.assertEqual((notes / "a").read_text(), "apple in the folder")
+        self.assertEqual((self.folder / "s/a").read_text(), "apple in the view")
+        self.assertEqual(self.ask("cat /own"), ["= apple in the store", "ok"])
 
     def test_what_was_removed_comes_again(self) -> None:
         self.make_store("write /a apple", "smkdir /s apple", "index")

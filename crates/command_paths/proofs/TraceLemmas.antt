@@ -24,6 +24,7 @@ use Rattle.hac_model.proofs.TreeLemmas.{Lives, child-entry, directory-lives}
 use Rattle.hac_model.proofs.Walks.{destination-walk, walk}
 use Rattle.command_paths.specs.Traces.{begin, step_to, steps, trace, up, word_met}
 use Rattle.hac_names.proofs.Walks.{nothing_left}
+use Rattle.hac_model.proofs.BoolLemmas.{and-false}
 
 -- Where words begin.
 
@@ -74,10 +75,6 @@ join-begins s dir word rest h is =
     ∙ ap (λ (p : List (List ℕ)). p ++ (word.names ++ rest)) (sym (begin-leads s dir word h is).path_is)
 
 -- Paths that lead on from a directory.
-
-and-false : (b : Bool) → (b && false) ≡ false
-and-false true = refl
-and-false false = refl
 
 module _ (s : State) (follow : Bool) (h : IsLayout s) where
   -- no link is met where nothing stands

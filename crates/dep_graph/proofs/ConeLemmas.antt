@@ -1,6 +1,6 @@
 -- A pass over all numbers in order, which keeps those that reach some of the directories.
 use Rattle.std.proofs.Common.{◌≡◌, ◌≢◌, ℕ, zero, suc, Bool, true, false, List, [], ◌∷◌, ◌++◌, subst, refl, sym, ◌∙◌, append_assoc, inl, inr}
-use Rattle.std.specs.Prelude.{◌⊎◌, ◌↔◌, ◌||◌}
+use Rattle.std.specs.Prelude.{◌⊎◌, ◌||◌}
 use Rattle.std.specs.List.{list_any}
 use Rattle.std.proofs.lemmas.List.{append-nil}
 use Rattle.hac_model.specs.Tree.Depends.{Among}
@@ -24,20 +24,6 @@ pub record Keeping (edges : ℕ → List ℕ) (dirs cone left : List ℕ) (set :
 -- the number is in the set, or some of its edges leads there
 abbrev pub leads_in : (ℕ → List ℕ) → (ℕ → Bool) → ℕ → Bool
 leads_in edges set n = set n || list_any (λ edge. set edge) (edges n)
-
-pub keeping-begins : (edges : ℕ → List ℕ) (dirs cone left : List ℕ) (set : ℕ → Bool) → cone ≡ [] → ((n : ℕ) → set n ≡ true ↔ Among dirs n) → ((n : ℕ) → Among left n ↔ edges n ≢ []) → IsOrdered edges left → Keeping edges dirs cone left set
-keeping-begins edges dirs cone left set none is all ordered = subst (λ (c : List ℕ). Keeping edges dirs c left set) (sym none) (record {
-  ordered = ordered;
-  from_set = λ n h. inl ((is n).0 h);
-  in_set = λ n h. known n h;
-  reaching = λ n never. absurd never;
-  some = λ n there. (all n).0 there;
-  all = λ n some reach. inr ((all n).1 some);
-})
-  where
-    known : (n : ℕ) → Among dirs n ⊎ Among [] n → set n ≡ true
-    known n (inl there) = (is n).1 there
-    known n (inr never) = absurd never
 
 -- ---- one that reaches none is passed by
 

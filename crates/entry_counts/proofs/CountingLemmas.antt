@@ -6,7 +6,7 @@ use Rattle.std.proofs.lemmas.Bool.Decides.{nat_tests}
 use Rattle.hac_model.specs.Tree.Events.{added, changed_in, changed_at, edited, removed, reseated}
 use Rattle.hac_model.specs.Tree.Limits.{are_paths_short, counts, long_paths, passed_limit, file_bytes}
 use Rattle.hac_model.specs.Tree.Links.{shown_of}
-use Rattle.hac_model.specs.Tree.{body_at, entry_at, is_directory, is_dirty, is_file, is_linkable, is_mount, is_symlink, shown_text, text_in}
+use Rattle.hac_model.specs.Tree.{is_queried, body_at, entry_at, is_directory, is_dirty, is_file, is_linkable, is_mount, is_symlink, shown_text, text_in}
 use Rattle.hac_model.specs.Tree.Valid.{IsLayout}
 use Rattle.hac_model.specs.declared.counts.Counts.{Counts}
 use Rattle.hac_model.specs.declared.states.Body.{Body}
@@ -14,12 +14,12 @@ use Rattle.hac_model.specs.declared.states.Body.TheVariants as body
 use Rattle.hac_model.specs.declared.states.Entry.{Entry}
 use Rattle.hac_model.specs.declared.states.State.{State}
 use Rattle.hac_model.proofs.ChangeLemmas.{is_kept}
-use Rattle.hac_model.proofs.CountLemmas.{is_queried, measured, measured-added, measured-changed, measured-cons, measured-removed, measured-reseated, one_if}
+use Rattle.hac_model.proofs.CountLemmas.{measured, measured-added, measured-changed, measured-cons, measured-removed, measured-reseated, one_if}
 use Rattle.hac_model.proofs.DepthLemmas.{paths-edited}
 use Rattle.hac_model.proofs.LimitLemmas.{IsWithinLimits, limits-within, most-dirs, most-mounts, most-numbers, most-symlinks}
-use Rattle.hac_model.proofs.ValidLemmas.{KeepsPlaces}
 use Rattle.entry_counts.specs.Counting as counting
 use Rattle.entry_counts.specs.Counting.{AreSmall, plus, share_of}
+use Rattle.hac_model.proofs.KindLemmas.{KeepsRole, keeps-mount}
 
 -- the counts of entries, each by a measure of bodies
 abbrev pub tally : List Entry → ℕ → ℕ → Counts
@@ -103,7 +103,7 @@ module _ (s : State) (h : IsLayout s) where
     counts-removed k = ap (λ (long : ℕ). plus (tally (filter (is_kept n) s.entries) long s.next) (share_of e.body)) (k ∙ sym (long-none s h.limits)) ∙ sym part-of.1
 
     -- an entry with another body
-    pub counts-edited : (edit : Body → Body) → KeepsPlaces edit → plus (counts (changed_at s n (edited edit))) (share_of e.body) ≡ plus (counts s) (share_of (edit e.body))
+    pub counts-edited : (edit : Body → Body) → KeepsRole edit → plus (counts (changed_at s n (edited edit))) (share_of e.body) ≡ plus (counts s) (share_of (edit e.body))
     counts-edited edit kind = λ i. record {
       bytes = new file_bytes i;
       directories = other i;
@@ -113,7 +113,7 @@ module _ (s : State) (h : IsLayout s) where
       files = new (one_if is_file) i;
       items = new (one_if is_linkable) i;
       dirty = new (one_if is_dirty) i;
-      long_paths = cond {A = ℕ} (paths-edited s.entries n edit kind.mounts i) 0 1 + 0;
+      long_paths = cond {A = ℕ} (paths-edited s.entries n edit (keeps-mount edit kind) i) 0 1 + 0;
       next = s.next + 0;
     }
       where
@@ -219,7 +219,7 @@ module _ (s : State) (h : IsLayout s) (n : ℕ) (e : Entry) (found : entry_at s.
   pub told-removed : (left : Counts) → long_paths (removed s n).entries ≡ 0 → plus left part ≡ told → left ≡ counts (removed s n)
   told-removed left short sum = same-part left (counts (removed s n)) (share_of e.body) (ap (plus left) (sym one) ∙ sum ∙ all ∙ sym (counts-removed s h n e found short))
 
-  pub told-edited : (edit : Body → Body) (left new : Counts) → KeepsPlaces edit → new ≡ share_of (edit e.body) → plus left part ≡ plus told new → left ≡ counts (changed_at s n (edited edit))
+  pub told-edited : (edit : Body → Body) (left new : Counts) → KeepsRole edit → new ≡ share_of (edit e.body) → plus left part ≡ plus told new → left ≡ counts (changed_at s n (edited edit))
   told-edited edit left new kind is sum =
       same-part left (counts (changed_at s n (edited edit))) (share_of e.body)
       (ap (plus left) (sym one) ∙ sum ∙ (λ i. plus (all i) (is i)) ∙ sym (counts-edited s h n e found edit kind))

@@ -37,9 +37,6 @@ not-within s e held is h =
     let over : is_none (passed_limit (apply s e)) ≡ false = sym (none-after s e held is) ∙ h in
     ap (λ (b : Bool). is_clear s e && is_placed s e && b) over ∙ and-false (is_clear s e && is_placed s e)
 
-pub not-clear : (s : State) (e : Event) → is_clear s e ≡ false → accepted s e ≡ false
-not-clear s e h = ap (λ (b : Bool). b && is_placed s e && is_none (passed_limit (apply s e))) h
-
 pub accepts : (s : State) (e : Event) (held : Counts) → is_placed s e ≡ true → held ≡ counts (apply s e) → passes_none s.version held ≡ true → is_clear s e ≡ true → accepted s e ≡ true
 accepts s e held placed is within clear =
     and_from (is_clear s e && is_placed s e) (is_none (passed_limit (apply s e))) (and_from (is_clear s e) (is_placed s e) clear placed) (sym (none-after s e held is) ∙ within)

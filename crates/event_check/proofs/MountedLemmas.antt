@@ -20,10 +20,11 @@ use Rattle.hac_model.proofs.KeepingLemmas.{document_by}
 use Rattle.hac_model.proofs.MapLemmas.{entry_at-mapped}
 use Rattle.hac_model.proofs.MountAskLemmas.{entry_at-filter, passing}
 use Rattle.hac_model.proofs.MountLayoutLemmas.{cleared-fits, entry_at-documents, gone-stays}
-use Rattle.hac_model.proofs.SuchLemmas.{such-document}
 use Rattle.hac_model.proofs.TreeLemmas.{entry_at-all, entry_at-next, place-directory}
 use Rattle.hac_model.proofs.ValidLemmas.{directory-below}
 use Rattle.event_check.specs.Mounting.{are_told_by, is_kept_document, is_one_of, name_at, will_have}
+use Rattle.hac_model.proofs.KindLemmas.{role-such, keeps-document}
+use Rattle.hac_model.proofs.BoolLemmas.{and-false, or-false}
 
 -- Documents come.
 
@@ -72,10 +73,6 @@ with-documents s mount n names rise = elim (cases_lt n s.next) [
       ∙ come-documents s.next mount n names
       ∙ ap (λ (b : Bool). b || is_one_of s.next (length names) n) (sym (ap (document_by mount) none)))
 ]
-  where
-    or-false : (b : Bool) → (b || false) ≡ b
-    or-false true = refl
-    or-false false = refl
 
 -- A mount comes.
 
@@ -92,10 +89,6 @@ module _ (s : State) (dir : ℕ) (name space : List ℕ) (answers : List Answer)
       at (Some e) found =
           let low : e.parent < s.next = directory-below s e.parent h (place-directory s.entries e (entry_at-all (λ e. is_in_place s.entries e ≡ true) s.entries n e h.places found)) in
           ap (λ (b : Bool). is_document e.body && b) (ne_eqb e.parent s.next (λ same. omega (arith, same, low))) ∙ and-false (is_document e.body)
-        where
-          and-false : (b : Bool) → (b && false) ≡ false
-          and-false true = refl
-          and-false false = refl
 
   -- nor is the mount itself a document
   mount-alone : (n : ℕ) → is_document_of (added s dir name (Mount space answers)) s.next n ≡ false
@@ -144,7 +137,7 @@ module _ (s : State) (mount : ℕ) (answers : List Answer) (documents : List (Li
   kept-documents n =
       ap (document_by mount) (entry_at-mapped forget (without_such (is_gone mount documents) s).entries n
       ∙ ap (option_map (edited forget)) (entry_at-filter (λ e. not (is_gone mount documents e)) 0 s.entries s.next n h.numbers))
-      ∙ left-document mount documents forget (such-document (is_such_at (is_gone mount documents) s.entries)) (entry_at s.entries n)
+      ∙ left-document mount documents forget (keeps-document (forgetting_such (is_such_at (is_gone mount documents) s.entries)) (role-such (is_such_at (is_gone mount documents) s.entries))) (entry_at s.entries n)
 
   keeping-document : (body : Body) → is_document (keeping answers body) ≡ is_document body
   keeping-document (Mount space kept) = refl

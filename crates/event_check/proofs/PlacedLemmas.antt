@@ -68,18 +68,15 @@ module _ (s t : State) (bares : bare s ≡ bare t) where
   same-alone (NewFile dir name text) none = λ i. same-free s t bares dir name i && is_text text
   same-alone (Rewrite file text) none = λ i. same-file s t bares file i && is_text text
   same-alone (Ln dir name target) none = λ i. same-free s t bares dir name i && is_target target
-  same-alone (Smkdir dir name query told) none = absurd cc
-  same-alone (Setq dir query told) none = absurd cc
   same-alone (Unq dir) none = same-semantic s t bares dir
   same-alone (Mark mark) none = λ i. same-markable s t bares mark.item mark.kind i && same-semantic s t bares mark.dir i
   same-alone (Mv entry dir name) none = λ i. same-some s t bares entry i && not (same-document s t bares entry i) && same-free s t bares dir name i && not (same-inside s t bares dir entry i)
   same-alone (Rm entry) none = same-leaf s t bares entry
   same-alone (Rmdir dir) none = λ i. same-made_holder dir i && same-bare s t bares dir i
-  same-alone (Smount dir name space documents told) none = absurd cc
-  same-alone (Ssync mount documents told) none = absurd cc
   same-alone (Sumount mount) none = same-mount s t bares mount
   same-alone Step none = due s.entries ∙ ap (λ (k : ℕ). nat_lt 0 k) (same-dirty s t bares) ∙ sym (due t.entries)
   same-alone (Cd session dir) none = λ i. is_space_name session && same-directory s t bares dir i
+  same-alone other none = absurd cc
 
   same-name : (n : ℕ) → name_at s n ≡ name_at t n
   same-name n = alike s t bares (λ s. name_at s n) (λ s. name-bare s n)

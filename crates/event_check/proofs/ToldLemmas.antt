@@ -16,6 +16,7 @@ use Rattle.kept_state.proofs.StateLemmas.{same-document, same-parent}
 use Rattle.tree_answers.specs.Asked.{questions, questions_to}
 use Rattle.tree_answers.specs.declared.asking.Question.{Question}
 use Rattle.event_check.specs.Told.{are_answered}
+use Rattle.hac_model.proofs.BoolLemmas.{and-false}
 
 -- Two states whose trees are one.
 
@@ -94,8 +95,4 @@ answered-even s [] [] odd = absurd (odd refl)
 answered-even s [] (numbers ∷ told) odd = refl
 answered-even s (question ∷ questions) [] odd = refl
 answered-even s (question ∷ questions) (numbers ∷ told) odd =
-    ap (λ (b : Bool). is_told s question.mount numbers && b) (answered-even s questions told (λ even. odd (omega (arith, even)))) ∙ never (is_told s question.mount numbers)
-  where
-    never : (b : Bool) → (b && false) ≡ false
-    never true = refl
-    never false = refl
+    ap (λ (b : Bool). is_told s question.mount numbers && b) (answered-even s questions told (λ even. odd (omega (arith, even)))) ∙ and-false (is_told s question.mount numbers)

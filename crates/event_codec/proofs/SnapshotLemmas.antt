@@ -3,7 +3,7 @@ use Rattle.std.proofs.Common.{◌≡◌, ℕ, Bool, true, false, eqb, nat_lt, na
 use Rattle.std.specs.Prelude.{not, ◌&&◌}
 use Rattle.std.specs.Option.{option_map}
 use Rattle.std.specs.Str.{bytes_eq}
-use Rattle.std.proofs.lemmas.Bool.{eqb-true, and_parts, and_from}
+use Rattle.std.proofs.lemmas.Bool.{and_from, and_parts, eqb-true, not-true}
 use Rattle.std.proofs.lemmas.List.{append-nil, nil_from_length}
 use Rattle.std.proofs.lemmas.Slice.Eq.{bytes_eq-Decides}
 use Rattle.hac_model.specs.Run.Answers.{◌>>=◌}
@@ -29,7 +29,7 @@ use Rattle.event_codec.specs.Laws.{AreBytes, ReadIsSnapshot, SnapshotIsRead}
 use Rattle.event_codec.proofs.FieldLemmas.{Took, Lawful, WayTakes, bind_ok, guard_ok, ok_is, nothing_lawful, both_lawful, checked_lawful, count_lawful, list_lawful, num_lawful, seen_lawful, way_is, way_is_fitting, whole_way_is, choice_takes, way_again, whole_way_again}
 use Rattle.event_codec.proofs.PayloadLemmas.{name_lawful, space_lawful, target_lawful, text_lawful, nums_lawful, placed_ok}
 use Rattle.event_codec.proofs.QueryLemmas.{query_lawful, word_lawful}
-use Rattle.hac_model.proofs.ChangeLemmas.{and-true}
+use Rattle.hac_model.proofs.BoolLemmas.{and-true}
 
 -- ---- files
 
@@ -50,14 +50,10 @@ flag_lawful = record {
 other_lawful : (text : List ℕ) → Lawful (other_text text)
 other_lawful text = checked_lawful text_field (λ shown. not (bytes_eq shown text)) text_lawful
 
-not-false : (b : Bool) → not b ≡ true → b ≡ false
-not-false false h = refl
-not-false true h = absurd cc
-
 -- a text that was shown differs from the text, or it is the text
 shown_other : (text shown : List ℕ) → (other_text text).fits shown ≡ true → shown_part text (Some shown) ≡ part 2 (other_text text) shown
 shown_other text shown fits =
-    let differs : bytes_eq shown text ≡ false = not-false (bytes_eq shown text) (and_parts (text_field.fits shown) (not (bytes_eq shown text)) fits).1 in
+    let differs : bytes_eq shown text ≡ false = not-true (bytes_eq shown text) (and_parts (text_field.fits shown) (not (bytes_eq shown text)) fits).1 in
     rw differs refl
 
 shown_same : (text : List ℕ) → shown_part text (Some text) ≡ part 1 nothing tt

@@ -7,7 +7,6 @@ use Rattle.std.specs.Ordering.{nat_cmp}
 use Rattle.std.specs.Str.{bytes_eq}
 use Rattle.std.proofs.Math.Bool.{or-false, and-true, and-false}
 use Rattle.std.proofs.lemmas.Bool.{cases_Bool, cases_eq, ne_eqb}
-use Rattle.std.proofs.lemmas.List.{append-nil}
 use Rattle.std.proofs.lemmas.Slice.Eq.{bytes_eq-Decides}
 use Rattle.hac_model.specs.Tree.Bare.{bare}
 use Rattle.hac_model.specs.Tree.Depends.{Among}
@@ -22,7 +21,7 @@ use Rattle.hac_model.proofs.ChangeLemmas.{entry_at-new, entry_at-other}
 use Rattle.hac_model.proofs.RaisedLemmas.{raised-layout}
 use Rattle.hac_model.proofs.TreeLemmas.{Lives, child-own, directory-lives, entry_at-all, entry_at-below, entry_at-first, entry_at-low, entry_at-next, place-directory, rise-below}
 use Rattle.file_tree.specs.Answers.{is_dirty_at}
-use Rattle.file_tree.specs.Loading.{IsLoaded, IsPlaced, IsPrepared, bare_entry, is_to_load}
+use Rattle.file_tree.specs.Loading.{IsPlaced, IsPrepared, bare_entry, is_to_load}
 use Rattle.file_tree.specs.Shape.{entries_below, AreNested, HasSpare, IsShaped, state_of}
 use Rattle.tree_nodes.specs.Nodes.{entry_of, has_node, kids_of, name_of, set_at, parent_in}
 use Rattle.tree_nodes.specs.Search.{rank_in, NamesRise}
@@ -38,14 +37,6 @@ use Rattle.hac_model.proofs.MountAskLemmas.{entry_at-joined}
 -- the entry that is looked up is dirty
 abbrev dirty_in : Option Entry → Bool
 dirty_in found = option_map_or is_dirty (option_map (λ (e : Entry). e.body) found) false
-
--- a node more, which is that of the first of the entries that are left
-pub node-more : (before after : Bool) (e : Entry) (rest : List Entry) (q : ℕ) → (nat_eq e.number q ≡ false → after ≡ before) → (nat_eq e.number q ≡ true → after ≡ true) →
-    (after || is_some (entry_at rest q)) ≡ (before || is_some (entry_at (e ∷ rest) q))
-node-more before after e rest q other own = elim (nat_eq e.number q) as (λ b. (nat_eq e.number q ≡ b) → (after || is_some (entry_at rest q)) ≡ (before || is_some (cond b (Some e) (entry_at rest q)))) [
-  | true ↦ (λ is. ap (λ (b : Bool). b || is_some (entry_at rest q)) (own is) ∙ (elim before as (λ b. true ≡ (b || true)) [ true ↦ refl | false ↦ refl ]))
-  | false ↦ (λ is. ap (λ (b : Bool). b || is_some (entry_at rest q)) (other is))
-] refl
 
 -- an entry more is looked up under its number
 entry_at-more : (taken : List Entry) (e : Entry) (q : ℕ) → entry_at taken e.number ≡ None → entry_at (taken ++ e ∷ []) q ≡ cond (nat_eq e.number q) (Some e) (entry_at taken q)
@@ -84,19 +75,6 @@ loaded-none next all loading h = record {
   };
   dirty_are = h.clean;
 }
-
--- all are in it
-pub loaded-all : (next : ℕ) (all : List Entry) (loading : Loading) → AreLoaded next all [] loading → IsLoaded next all loading
-loaded-all next all loading h = subst (λ (es : List Entry). IsLoaded next es loading) (sym whole) (record {
-  next_is = h.next_is;
-  numbers = λ n. h.numbers n ∙ ap (λ (es : List Entry). is_to_load es n) whole;
-  entries_are = h.entries_are;
-  lists = h.lists;
-  dirty_are = h.dirty_are;
-})
-  where
-    whole : all ≡ h.taken
-    whole = h.split ∙ append-nil h.taken
 
 module _ (next : ℕ) (all : List Entry) (layout : IsLayout (state_with Two next all)) (taken : List Entry) (e : Entry) (rest : List Entry) (split : all ≡ taken ++ e ∷ rest) where
   behind : (0 < e.number) × (entry_at taken e.number ≡ None)

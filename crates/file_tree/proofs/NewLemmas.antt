@@ -5,17 +5,12 @@ use Rattle.std.specs.Option.{option_map, option_map_or, option_to_list}
 use Rattle.std.specs.Map.{lookup}
 use Rattle.indexmap.specs.IndexMap.{IndexMap}
 use Rattle.hac_model.specs.Tree.Depends.{Among}
-use Rattle.hac_model.specs.Tree.Events.{added}
 use Rattle.hac_model.specs.Tree.{root_alone}
 use Rattle.hac_model.specs.Tree.Limits.{first_passed, passed_limit}
-use Rattle.hac_model.specs.Tree.Valid.{IsLayout, IsSound}
-use Rattle.hac_model.specs.declared.states.Body.{Body}
+use Rattle.hac_model.specs.Tree.Valid.{IsLayout}
 use Rattle.hac_model.specs.declared.states.Entry.{Entry}
-use Rattle.hac_model.specs.declared.states.State.{State}
 use Rattle.hac_model.specs.declared.versions.Version.{Version}
 use Rattle.hac_model.specs.declared.versions.Version.TheVariants.{One, Two}
-use Rattle.hac_model.proofs.ChangeLemmas.{entry_at-new}
-use Rattle.hac_model.proofs.TreeLemmas.{entry_at-all, entry_at-next}
 use Rattle.file_tree.specs.Shape.{entries_below, HasNew, HasSpare, IsShaped, state_of}
 use Rattle.tree_nodes.specs.Nodes.{entry_from, entry_of, has_node, if_placed, kids_of, name_of, parent_in}
 use Rattle.file_tree.specs.Ready.{ready_for}
@@ -69,12 +64,6 @@ shaped-new u next entries kids root others spare = record {
 }
 
 -- A new entry.
-
--- it is sound in a sound tree
-pub added-sound : (s : State) (dir : ℕ) (name : List ℕ) (b : Body) → IsLayout s → IsLayout (added s dir name b) → IsSound b
-added-sound s dir name b h after =
-    let entry : Entry = record { number = s.next; parent = dir; name = name; body = b } in
-    entry_at-all (λ e. IsSound e.body) (added s dir name b).entries s.next entry after.bodies (entry_at-new s.entries entry (entry_at-next 0 s.entries s.next s.next h.numbers (omega arith)))
 
 -- what was prepared for it, of whatever kind
 pub spare-new : {S : Type 0} (dir : ℕ) (b : NewBody) (nodes : IndexMap ℕ Node S) (next : ℕ) → HasSpare (ready_for dir b) nodes next → HasNew dir nodes next

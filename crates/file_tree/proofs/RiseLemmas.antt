@@ -1,8 +1,8 @@
 -- Entries whose numbers rise: they are told by what is looked up in them.
 use Rattle.std.proofs.Common.{◌≡◌, ℕ, zero, suc, ◌<◌, ◌≤◌, List, [], ◌∷◌, ◌++◌, refl, ap, sym, subst, ◌∙◌, arith, inl, inr}
-use Rattle.std.specs.Prelude.{◌⊎◌, Option, Some, None}
+use Rattle.std.specs.Prelude.{Option, Some, None}
 use Rattle.std.specs.Option.{option_to_list}
-use Rattle.std.proofs.lemmas.Bool.{cases_eq, cases_lt}
+use Rattle.std.proofs.lemmas.Bool.{cases_eq}
 use Rattle.std.proofs.lemmas.List.{append-nil}
 use Rattle.hac_model.specs.Tree.{entry_at}
 use Rattle.hac_model.specs.Tree.Valid.{NumbersRise}
@@ -11,15 +11,6 @@ use Rattle.hac_model.proofs.TreeLemmas.{entry_at-behind, entry_at-first}
 use Rattle.file_tree.specs.Shape.{entries_below}
 use Rattle.file_tree.proofs.BelowLemmas.{IsNumbered, below-all}
 use Rattle.hac_model.proofs.PlainLemmas.{entries-told}
-
-less-or-more : (m n : ℕ) → (m ≡ n → ⊥) → (m < n) ⊎ (n < m)
-less-or-more m n other = elim (cases_lt m n) [
-  | inl less ↦ inl less
-  | inr more ↦ inr (below-or-same m n more other)
-]
-  where
-    below-or-same : (m n : ℕ) → n ≤ m → (m ≡ n → ⊥) → n < m
-    below-or-same m n more other = omega arith
 
 -- another bound
 rise-higher : (above : ℕ) (es : List Entry) (low high : ℕ) → low ≤ high → NumbersRise above es low → NumbersRise above es high

@@ -9,7 +9,7 @@ use Rattle.file_tree.specs.declared.bodies.NewBody.{NewBody}
 use Rattle.file_tree.specs.declared.ready.Ready.{Ready}
 use Rattle.file_tree.specs.declared.ready.Ready.TheVariants.{Nothing, Add, Link, Move, Text, Mount, Sync}
 use Rattle.file_tree.specs.declared.bodies.NewBody.TheVariants as new
-use Rattle.file_tree.specs.declared.tree.EntryKind.TheVariants as kind
+use Rattle.hac_model.specs.declared.states.EntryKind.TheVariants as kind
 
 -- the file that the prepared change will make dirty, given the number of a new entry
 abbrev pub awaited : ℕ → Ready → Option ℕ

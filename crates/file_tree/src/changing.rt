@@ -14,9 +14,9 @@ ghost use Rattle.file_tree.specs.Ready.{is_number, is_to_index, ready_for};
 
 use crate::bodies::{NewBody, new_content};
 use crate::ready::{Ready, awaited, word_in};
-use crate::tree::{EntryKind, Tree};
+use crate::tree::Tree;
 use entry_counts::{kept_bytes, of_file, replaced};
-use hac_model::{Counts, Event, Memory, Name, Number, Query, Text};
+use hac_model::{Counts, EntryKind, Event, Memory, Name, Number, Query, Text};
 use std::collections::BTreeSet;
 use std::mem;
 use tree_nodes::{insert_named, parent_at, place_at, read_word};

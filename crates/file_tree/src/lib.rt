@@ -12,4 +12,4 @@ mod tree;
 
 pub use bodies::NewBody;
 pub use ready::Ready;
-pub use tree::{EntryKind, Tree};
+pub use tree::Tree;

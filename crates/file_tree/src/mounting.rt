@@ -13,7 +13,7 @@ use hac_model::{Counts, DOCS_LIMIT, Memory, Name, Number, Seq};
 use std::mem;
 use tiered_list::{Items, TieredList};
 use tree_nodes::{
-    Content, children_at, insert_named, list_numbers, numbers_up, parent_at, place_at,
+    Content, children_at, insert_named, list_numbers, parent_at, place_at, prepare_documents,
     prepare_nodes, put_unknown, take_dropped,
 };
 
@@ -42,10 +42,14 @@ impl Tree {
         ensures err { OnErr result (GotReady Ready.Nothing self.old self.new) }
     {
         self.forget();
-        let first = self.next.get() + 1;
-        prepare_nodes(self.alloc, &mut self.nodes, self.next.get(), first + count)?;
+        prepare_documents(
+            self.alloc,
+            &mut self.nodes,
+            &mut self.documents,
+            self.next,
+            count,
+        )?;
         tree_nodes::reserve_child(&mut self.nodes, dir)?;
-        self.documents = TieredList::from_vec(self.alloc, numbers_up(self.alloc, first, count)?);
         self.ready = Ready::Mount { dir, count };
         Ok(())
     }

@@ -3,8 +3,7 @@
 ghost use Rattle.std.specs.Prelude.{◌≡◌};
 ghost use Rattle.file_tree.specs.Ready.{awaited, numbers_in, word_in};
 
-use crate::tree::EntryKind;
-use hac_model::{Number, PathWord, Seq};
+use hac_model::{EntryKind, Number, PathWord, Seq};
 use std::alloc::Global;
 
 /// The change that was prepared last.

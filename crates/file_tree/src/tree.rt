@@ -11,13 +11,14 @@ ghost use Rattle.hac_model.specs.Tree.{body_at, child, entry_at, is_directory_at
 ghost use Rattle.hac_model.specs.Tree.{is_document_at, is_file_at, is_made_directory, is_mount_at};
 ghost use Rattle.hac_model.specs.Tree.{is_symlink_at, raised, root_alone, target_in, text_in};
 ghost use Rattle.hac_model.specs.Tree.Valid.{IsLayout};
-ghost use Rattle.file_tree.specs.Answers.{entries_behind, entry_kind, entry_kind_at, is_dirty_at};
+ghost use Rattle.file_tree.specs.Answers.{entries_behind, is_dirty_at};
+ghost use Rattle.hac_model.specs.Tree.{entry_kind, entry_kind_at};
 ghost use Rattle.file_tree.specs.Answers.{numbers_of};
 ghost use Rattle.tree_nodes.specs.Nodes.{body_of};
 
 use crate::ready::Ready;
 use entry_counts::of_root;
-use hac_model::{Counts, Memory, Name, Number, PathWord, Query, Text, Version};
+use hac_model::{Counts, EntryKind, Memory, Name, Number, PathWord, Query, Text, Version};
 use indexmap::IndexMap;
 use std::alloc::Global;
 use std::collections::BTreeSet;
@@ -57,23 +58,6 @@ impl Model for Tree {
     ghost view = { seen_of };
 
     ghost invariant = { IsTree };
-}
-
-/// The kind of an entry.
-#[derive(Clone, Copy, Debug, PartialEq, Eq)]
-pub enum EntryKind {
-    /// A file.
-    File,
-    /// A plain directory.
-    Dir,
-    /// A symbolic link.
-    Symlink,
-    /// A directory with a query.
-    Semantic,
-    /// A directory that shows another collection.
-    Mount,
-    /// An entry of a mount.
-    Document,
 }
 
 impl Tree {

@@ -7,6 +7,7 @@ use Rattle.hac_checkpoint.specs.declared.heads.Root.{Root}
 use Rattle.hac_disk.specs.Images.{Torn, overlaid}
 use Rattle.hac_journal.specs.Appending.{ClosedAt}
 use Rattle.hac_journal.specs.Finding.{Whole, found_at}
+use Rattle.hac_journal.specs.Logs.{log_at}
 
 -- images that agree in their first 43 bytes have the same root
 abbrev pub RootsAgree : Type 0
@@ -36,6 +37,11 @@ RecordsAreKept = (area : Area) (at next : ℕ) (payload c d : List ℕ) → Have
 
 abbrev pub ClosedGatesAreKept : Type 0
 ClosedGatesAreKept = (area : Area) (at : ℕ) (c d : List ℕ) → HaveSame area c d → area.start ≤ at → at ≤ area.end → ClosedAt at d → ClosedAt at c
+
+-- so is its log, where it ends in the area
+abbrev pub LogsAreKept : Type 0
+LogsAreKept = (area : Area) (at end : ℕ) (c d : List ℕ) → HaveSame area c d → area.start ≤ at → end ≤ area.end → (log_at at d).end ≡ Some end
+    → log_at at c ≡ log_at at d
 
 -- an area that was written is found: its record, and then a closed gate
 abbrev pub AreasAreFound : Type 0

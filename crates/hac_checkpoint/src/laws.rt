@@ -1,7 +1,7 @@
 //! Theorems on roots and areas alone. Each is the contract of a function that does nothing.
 ghost use Rattle.hac_checkpoint.specs.Laws.{AreasAreFound, ClosedGatesAreKept, NewAreasLieApart};
-ghost use Rattle.hac_checkpoint.specs.Laws.{RecordsAreKept, RootsAgree, RootsStartBehind};
-ghost use Rattle.hac_checkpoint.specs.Laws.{WritesLeaveAreas, WritesLeaveRoots};
+ghost use Rattle.hac_checkpoint.specs.Laws.{LogsAreKept, RecordsAreKept, RootsAgree};
+ghost use Rattle.hac_checkpoint.specs.Laws.{RootsStartBehind, WritesLeaveAreas, WritesLeaveRoots};
 
 /// The head of a store alone decides its root, and the root's area begins behind the head.
 pub fn roots_agree()
@@ -21,6 +21,7 @@ pub fn new_areas_lie_apart()
 pub fn areas_are_read_alone()
     ensures records { RecordsAreKept }
     ensures gates { ClosedGatesAreKept }
+    ensures logs { LogsAreKept }
 {}
 
 /// An area that was written is found.

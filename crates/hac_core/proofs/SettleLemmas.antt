@@ -1,6 +1,6 @@
 -- What becomes of a change once spaces have answered.
 use Rattle.std.proofs.Common.{◌≡◌, ℕ, true, false, List, [], ◌∷◌, ◌++◌, length, subst, refl, ap, sym, ◌∙◌}
-use Rattle.std.specs.Prelude.{IsTrue, None, Option}
+use Rattle.std.specs.Prelude.{None, Option}
 use Rattle.std.specs.Option.{option_map}
 use Rattle.std.proofs.lemmas.Bool.{and_from, and_parts}
 use Rattle.hac_model.specs.Query.Formula.{Formula}
@@ -71,6 +71,3 @@ module _ (s : State) (answers : Answers) (e : Event) (told : AreAnswersTo (asks_
 
   pub asking-found : (dir : ℕ) (query : Formula ℕ) (were : List (List ℕ)) → e ≡ Setq dir query were → length answers.found ≡ length (query_asks s query).searches
   asking-found dir query were is = (subst (λ (e : Event). AreAnswersTo (asks_for s e) answers) is told).found
-
-pub synced-there : (s : State) (e : Event) (mount : ℕ) (documents told : List (List ℕ)) → IsTrue (is_seated s e) → e ≡ Ssync mount documents told → IsTrue (is_mount_at s.entries mount)
-synced-there s e mount documents told seated is = (and_parts (is_mount_at s.entries mount) (are_documents documents) (subst (λ (e : Event). IsTrue (is_seated s e)) is seated)).0

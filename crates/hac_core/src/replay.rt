@@ -2,7 +2,8 @@
 ghost use Rattle.std.specs.Prelude.{◌≡◌, ◌≤◌, ◌+◌, if◌then◌else◌, [], IfOk, IsErrOf, IsTrue};
 ghost use Rattle.std.specs.Prelude.{OnOk, false};
 ghost use Rattle.hac_model.specs.Payload.States.{restored};
-ghost use Rattle.hac_model.specs.Tree.Costs.{opening, weight};
+ghost use Rattle.hac_model.specs.Run.History.{replay_cost};
+ghost use Rattle.hac_model.specs.Tree.Costs.{opening};
 ghost use Rattle.hac_model.specs.Tree.Events.{accepted, apply};
 ghost use Rattle.hac_model.specs.Tree.Sessions.{is_stored};
 ghost use Rattle.hac_model.specs.Tree.Valid.{IsValid};
@@ -83,7 +84,7 @@ impl Replay {
         ensures happened { IfOk result (λ happened. happened ≡ accepted self.old event) }
         ensures state { OnOk result (self.new
             ≡ (if accepted self.old event then apply self.old event else self.old)) }
-        ensures probes { probes.new ≤ probes.old + weight self.old }
+        ensures probes { probes.new ≤ probes.old + replay_cost self.old event }
     {
         match self.fits(&event, probes) {
             Ok(Some(counts)) => {
@@ -124,7 +125,7 @@ impl Replay {
     ) -> Result<Option<Counts>, Memory>
         ensures fits { IfOk result (FitsAs self.old event.now) }
         ensures same { self.new ≡ self.old }
-        ensures probes { probes.new ≤ probes.old + weight self.old }
+        ensures probes { probes.new ≤ probes.old + replay_cost self.old event.now }
     {
         let found = self.prohibits_found(event, probes)?;
         fits(self.alloc, self.unlinked.kept(), event, found)
@@ -138,7 +139,7 @@ impl Replay {
     ) -> Result<bool, Memory>
         ensures found { IfOk result (λ found. found ≡ prohibits_found self.old event.now) }
         ensures same { self.new ≡ self.old }
-        ensures probes { probes.new ≤ probes.old + weight self.old }
+        ensures probes { probes.new ≤ probes.old + replay_cost self.old event.now }
     {
         match event {
             Event::Mark(mark) if mark.kind.is_prohibited() => {

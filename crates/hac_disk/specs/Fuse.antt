@@ -1,6 +1,7 @@
 -- What a call does to a disk behind a fuse.
 use Rattle.std.specs.Prelude.{◌≡◌, ◌+◌, ◌-◌, ◌<◌, Result, IsErr}
 use Rattle.hac_outside.specs.Causes.{HasCause}
+use Rattle.hac_disk.specs.Exchanges.{Exchange}
 use Rattle.hac_disk.specs.Images.{IsQuiet}
 use Rattle.hac_disk.specs.Seen.{DiskSeen, IsLawful}
 use Rattle.hac_disk.specs.declared.fuse.FuseDisk.{FuseDisk}
@@ -30,3 +31,7 @@ pub record BurnsQuietly {D T E : Type 0} (seen : D → DiskSeen) (old new : Fuse
   pub burns : Burns seen old new result
   pub quiet : IsQuiet (behind_fuse seen old) (behind_fuse seen new)
   pub attached : (seen new.disk).attached ≡ (seen old.disk).attached
+
+-- where a call was left, the disk behind the fuse went through this one call, and through nothing else
+abbrev pub fuse_does : {D : Type 0} → (Exchange → D → D → Type 0) → Exchange → FuseDisk D → FuseDisk D → Type 0
+fuse_does does exchange old new = 0 < old.calls → does exchange old.disk new.disk

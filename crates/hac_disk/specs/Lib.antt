@@ -1,3 +1,4 @@
+pub mod Exchanges
 pub mod Fuse
 pub mod Images
 pub mod Kept

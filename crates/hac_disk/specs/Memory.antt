@@ -1,6 +1,8 @@
 -- What a disk in memory is seen as: the file as it was at first, and the calls since.
-use Rattle.std.specs.Prelude.{◌≡◌, ◌⊎◌, ℕ, ◌+◌, ◌<◌, ◌≤◌, Bool, List, [], ◌∷◌, ◌++◌, length, Some, Result, Ok, Err, is_ok, if◌then◌else◌}
+use Rattle.std.specs.Prelude.{◌≡◌, ◌⊎◌, ℕ, ◌+◌, ◌-◌, ◌<◌, ◌≤◌, Bool, List, [], ◌∷◌, ◌++◌, length, Some, Result, Ok, Err, is_ok, if◌then◌else◌}
 use Rattle.hac_outside.specs.Calls.{IsFailingCall, next_number}
+use Rattle.hac_outside.specs.declared.fault.Failed.{Failed}
+use Rattle.hac_disk.specs.Exchanges as exchange
 use Rattle.hac_disk.specs.Images.{overlaid, Torn}
 use Rattle.hac_disk.specs.Seen.{DiskSeen}
 
@@ -82,3 +84,21 @@ pub record IsNextCall {T E : Type 0} (old new : DiskState) (result : Result T E)
   pub failing : new.failing ≡ old.failing
   pub calls : new.calls ≡ next_number old.calls
   pub faults : new.faults ≡ (if is_ok result then old.faults else next_number old.faults)
+
+-- this much room is left, where the call went well
+abbrev pub room_behind : {E : Type 0} → Result Unit E → ℕ → ℕ → ℕ
+room_behind result size room = if is_ok result then room - size else room
+
+-- one call was made: those that went well and changed something are now these, there is so much room, and the call is counted
+pub record Made {T : Type 0} (old new : DiskState) (result : Result T Failed) (calls : List Call) (left : ℕ) : Type 0 where
+  pub done : new.done ≡ calls
+  pub room : new.room ≡ left
+  pub plan : IsNextCall old new result
+
+-- what one call does to a disk in memory
+abbrev pub memory_does : exchange.Exchange → DiskState → DiskState → Type 0
+memory_does (exchange.Attach name make result) old new = Made old new result (with_call result (Attached name make) old.done) (room_behind result (length name) old.room)
+memory_does (exchange.Len result) old new = Made old new result old.done old.room
+memory_does (exchange.Read at before after result) old new = Made old new result old.done old.room
+memory_does (exchange.Write at bytes result) old new = Made old new result (with_call result (Wrote at bytes) old.done) (room_behind result (length bytes) old.room)
+memory_does (exchange.Sync result) old new = Made old new result (with_call result Synced old.done) old.room

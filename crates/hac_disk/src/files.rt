@@ -1,5 +1,5 @@
 //! A disk over a real file. It tells nothing: no contract can say what a real file holds.
-ghost use Rattle.std.specs.Prelude.{◌≡◌};
+ghost use Rattle.std.specs.Prelude.{◌≡◌, ⊤};
 ghost use Rattle.hac_outside.specs.Causes.{HasCause};
 
 use super::disks::Disk;
@@ -47,6 +47,8 @@ impl Disk for FileDisk<'_> {
     ghost use Rattle.hac_disk.specs.Unknown.{unknown, unknown_lawful};
 
     ghost seen = { λ disk. unknown disk.faults };
+
+    ghost does = { λ exchange old new. ⊤ };
 
     ghost lawful = { λ disk. unknown_lawful disk.faults };
 

@@ -3,7 +3,8 @@ ghost use Rattle.std.specs.Prelude.{◌≡◌, ◌-◌, ◌↔◌, IfOk, IsErr, 
 ghost use Rattle.std.specs.Prelude.{is_ok, length};
 ghost use Rattle.hac_outside.specs.Calls.{next_number};
 ghost use Rattle.hac_outside.specs.Causes.{HasCause};
-ghost use Rattle.hac_disk.specs.Fuse.{Burns, BurnsQuietly, behind_fuse, fuse_lawful};
+ghost use Rattle.hac_disk.specs.Exchanges as exchange;
+ghost use Rattle.hac_disk.specs.Fuse.{Burns, BurnsQuietly, behind_fuse, fuse_does, fuse_lawful};
 ghost use Rattle.hac_disk.specs.Images.{Elapses, Follows, IsQuiet, IsSettled, Torn};
 ghost use Rattle.hac_disk.specs.Contents.{Attaches, HasLength, RangeWithin, StandAt};
 ghost use Rattle.hac_disk.specs.Contents.{StartsWithin, Written, WrittenInPart};
@@ -63,6 +64,8 @@ impl<D: Disk> FuseDisk<D> {
 impl<D: Disk> Disk for FuseDisk<D> {
     ghost seen = { behind_fuse D.seen };
 
+    ghost does = { fuse_does D.does };
+
     ghost lawful = { λ fuse. fuse_lawful D.seen fuse (D.lawful fuse.disk) };
 
     fn attach(&mut self, name: &str, make: bool) -> Result<(), Failed>
@@ -70,6 +73,7 @@ impl<D: Disk> Disk for FuseDisk<D> {
             (D.seen self.new.disk).attached }
         ensures quiet { IsQuiet (behind_fuse D.seen self.old) (behind_fuse D.seen self.new) }
         ensures burns { Burns D.seen self.old self.new result }
+        ensures once { fuse_does D.does (exchange.Attach name.now make result) self.old self.new }
     {
         self.burn()?;
         self.disk.attach(name, make)
@@ -78,6 +82,7 @@ impl<D: Disk> Disk for FuseDisk<D> {
     fn len(&mut self) -> Result<u64, Failed>
         ensures len { IfOk result (λ len. HasLength (D.seen self.old.disk).contents len) }
         ensures burns { BurnsQuietly D.seen self.old self.new result }
+        ensures once { fuse_does D.does (exchange.Len result) self.old self.new }
     {
         self.burn()?;
         self.disk.len()
@@ -87,6 +92,7 @@ impl<D: Disk> Disk for FuseDisk<D> {
         requires { RangeWithin (D.seen self.old.disk).contents at (length into.old) }
         ensures read { OnOk result (StandAt (D.seen self.old.disk).contents at into.new) }
         ensures burns { BurnsQuietly D.seen self.old self.new result }
+        ensures once { fuse_does D.does (exchange.Read at into.old into.new result) self.old self.new }
     {
         self.burn()?;
         self.disk.read_at(at, into)
@@ -103,6 +109,7 @@ impl<D: Disk> Disk for FuseDisk<D> {
         ensures time { Elapses (behind_fuse D.seen self.old) (behind_fuse D.seen self.new) }
         ensures attached { (D.seen self.new.disk).attached ≡ (D.seen self.old.disk).attached }
         ensures burns { Burns D.seen self.old self.new result }
+        ensures once { fuse_does D.does (exchange.Write at bytes.now result) self.old self.new }
     {
         self.burn()?;
         self.disk.write_at(at, bytes)
@@ -111,6 +118,7 @@ impl<D: Disk> Disk for FuseDisk<D> {
     fn sync(&mut self) -> Result<(), Failed>
         ensures settled { OnOk result (IsSettled (behind_fuse D.seen self.new)) }
         ensures burns { BurnsQuietly D.seen self.old self.new result }
+        ensures once { fuse_does D.does (exchange.Sync result) self.old self.new }
     {
         self.burn()?;
         self.disk.sync()

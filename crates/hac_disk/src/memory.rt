@@ -3,9 +3,9 @@
 ghost use Rattle.std.specs.Prelude.{◌≡◌, ◌⊎◌, ◌-◌, ◌<◌, ◌↔◌, ◌==◌, [], IfOk, IsErr, OnErr, OnOk};
 ghost use Rattle.std.specs.Prelude.{if◌then◌else◌, is_ok, length};
 ghost use Rattle.hac_outside.specs.Causes.{HasCause};
+ghost use Rattle.hac_disk.specs.Exchanges as exchange;
 ghost use Rattle.hac_disk.specs.Images.{Elapses, Follows, IsQuiet, IsSettled, Torn};
-ghost use Rattle.hac_disk.specs.Memory.{Attached, IsFailing, IsNextCall, Synced, TouchesGap, Wrote};
-ghost use Rattle.hac_disk.specs.Memory.{seen_of, with_call};
+ghost use Rattle.hac_disk.specs.Memory.{IsFailing, TouchesGap, memory_does, seen_of};
 ghost use Rattle.hac_disk.specs.Parts.{contents};
 ghost use Rattle.hac_disk.specs.Contents.{Attaches, HasLength, RangeWithin, StandAt};
 ghost use Rattle.hac_disk.specs.Contents.{StartsWithin, Written, WrittenInPart};
@@ -113,6 +113,8 @@ impl Disk for MemoryDisk {
 
     ghost seen = { seen_of };
 
+    ghost does = { memory_does };
+
     ghost lawful = { memory_lawful };
 
     fn attach(&mut self, name: &str, make: bool) -> Result<(), Failed>
@@ -123,10 +125,7 @@ impl Disk for MemoryDisk {
 
         // Which calls fail, and what the others change.
         ensures fails { IsErr result ↔ (IsFailing self.old ⊎ (self.old.room < length name.now)) }
-        ensures done { self.new.done ≡ with_call result (Attached name.now make) self.old.done }
-        ensures room { self.new.room ≡ (if is_ok result then self.old.room - length name.now else
-            self.old.room) }
-        ensures plan { IsNextCall self.old self.new result }
+        ensures once { memory_does (exchange.Attach name.now make result) self.old self.new }
     {
         self.calls.begin_within(self.last_call)?;
         let name = name.as_bytes();
@@ -147,9 +146,7 @@ impl Disk for MemoryDisk {
         ensures quiet { IsQuiet (seen_of self.old) (seen_of self.new) }
         ensures cause { HasCause self.old.faults self.new.faults result }
         ensures fails { IsErr result ↔ IsFailing self.old }
-        ensures done { self.new.done ≡ self.old.done }
-        ensures room { self.new.room ≡ self.old.room }
-        ensures plan { IsNextCall self.old self.new result }
+        ensures once { memory_does (exchange.Len result) self.old self.new }
     {
         self.calls.begin_within(self.last_call)?;
         Ok((self.head.len() + self.gap + self.tail.len()) as u64)
@@ -162,9 +159,7 @@ impl Disk for MemoryDisk {
         ensures quiet { IsQuiet (seen_of self.old) (seen_of self.new) }
         ensures cause { HasCause self.old.faults self.new.faults result }
         ensures fails { IsErr result ↔ IsFailing self.old }
-        ensures done { self.new.done ≡ self.old.done }
-        ensures room { self.new.room ≡ self.old.room }
-        ensures plan { IsNextCall self.old self.new result }
+        ensures once { memory_does (exchange.Read at into.old into.new result) self.old self.new }
     {
         self.calls.begin_within(self.last_call)?;
         read_parts(&self.head, self.gap, &self.tail, at as usize, into);
@@ -184,10 +179,7 @@ impl Disk for MemoryDisk {
         ensures cause { HasCause self.old.faults self.new.faults result }
         ensures fails { IsErr result ↔ (IsFailing self.old ⊎
             ((self.old.room < length bytes.now) ⊎ TouchesGap self.old at (length bytes.now))) }
-        ensures done { self.new.done ≡ with_call result (Wrote at bytes.now) self.old.done }
-        ensures room { self.new.room ≡ (if is_ok result then self.old.room - length bytes.now else
-            self.old.room) }
-        ensures plan { IsNextCall self.old self.new result }
+        ensures once { memory_does (exchange.Write at bytes.now result) self.old self.new }
     {
         self.calls.begin_within(self.last_call)?;
         if bytes.len() > self.room {
@@ -208,9 +200,7 @@ impl Disk for MemoryDisk {
         ensures quiet { IsQuiet (seen_of self.old) (seen_of self.new) }
         ensures cause { HasCause self.old.faults self.new.faults result }
         ensures fails { IsErr result ↔ IsFailing self.old }
-        ensures done { self.new.done ≡ with_call result Synced self.old.done }
-        ensures room { self.new.room ≡ self.old.room }
-        ensures plan { IsNextCall self.old self.new result }
+        ensures once { memory_does (exchange.Sync result) self.old self.new }
     {
         self.calls.begin_within(self.last_call)?;
         self.log.push(Step::Sync).unwrap();

@@ -12,6 +12,8 @@ mod records;
 pub use appending::append;
 pub use fault::JournalFault;
 pub use finding::Next;
-pub use laws::{closed_gates_end_a_log, found_records_are_whole, records_are_found};
+pub use laws::{
+    closed_gates_end_a_log, found_records_are_whole, logs_are_read, logs_go_on, records_are_found,
+};
 pub use reading::{LogReader, next};
 pub use records::{CLOSED, OPEN};

@@ -17,7 +17,7 @@ use Rattle.hac_model.specs.Tree.Names.{is_name}
 use Rattle.hac_model.specs.Tree.Paths.{join, without_last}
 use Rattle.hac_model.specs.Query.Queries.{is_query}
 use Rattle.hac_model.specs.Run.Resolving.{directory_or_root, resolved_for, directory, entry, item_and_dir, listed_directory, numbered_query, place, resolved, wanted_entry, holder, mount_of, outside_mounts, own_entry, slot}
-use Rattle.hac_model.specs.Tree.{body_at, child, entry_at, extends, is_directory, is_directory_at, is_dirty, is_document, is_document_at, is_file, is_file_at, is_linkable, is_mount, is_mount_at, is_symlink, is_symlink_at, path_of, query_in, shown_text, target_in, text_in}
+use Rattle.hac_model.specs.Tree.{body_at, child, entry_at, extends, is_directory, is_directory_at, is_dirty, is_document, is_document_at, is_file, is_file_at, is_linkable, is_mount, is_mount_at, is_queried, is_symlink, is_symlink_at, path_of, query_in, shown_text, target_in, text_in}
 use Rattle.hac_model.specs.Tree.Valid.{IsLayout, IsSound, NamesDiffer, NumbersRise, is_in_place}
 use Rattle.hac_model.specs.declared.commands.Command.{Command}
 use Rattle.hac_model.specs.declared.commands.Command.TheVariants as command
@@ -32,37 +32,13 @@ use Rattle.hac_model.specs.declared.states.Body.{Body}
 use Rattle.hac_model.specs.declared.states.Body.TheVariants.{Dir, Document, File, Mount, Semantic, Symlink}
 use Rattle.hac_model.specs.declared.states.Entry.{Entry}
 use Rattle.hac_model.specs.declared.states.State.{State}
-use Rattle.hac_model.proofs.CountLemmas.{is_queried, measured, measured-cons, one_if, keeps-linkable}
+use Rattle.hac_model.proofs.CountLemmas.{measured, measured-cons, one_if}
 use Rattle.hac_model.proofs.MapLemmas.{KeepsMeasures, mapped, mapped-layout, child-mapped, directory-mapped, entry_at-mapped, lineage-mapped, paths-mapped, test-mapped, place-mapped}
 use Rattle.hac_model.proofs.PathLemmas.{path-names}
 use Rattle.hac_model.proofs.ChangeLemmas.{all-weaker}
+use Rattle.hac_model.proofs.KindLemmas.{kind-bare, role-bare, keeps-directory, keeps-document, keeps-file, keeps-item, keeps-mount, keeps-queried, keeps-symlink}
 
 -- Bodies without marks.
-
-pub bare-kind : (body : Body) → is_directory (bare_body body) ≡ is_directory body
-bare-kind (Semantic query permanent prohibited) = refl
-bare-kind (Mount space answers) = refl
-bare-kind other = refl
-
-pub bare-file : (body : Body) → is_file (bare_body body) ≡ is_file body
-bare-file (Semantic query permanent prohibited) = refl
-bare-file (Mount space answers) = refl
-bare-file other = refl
-
-bare-symlink : (body : Body) → is_symlink (bare_body body) ≡ is_symlink body
-bare-symlink (Semantic query permanent prohibited) = refl
-bare-symlink (Mount space answers) = refl
-bare-symlink other = refl
-
-pub bare-mount : (body : Body) → is_mount (bare_body body) ≡ is_mount body
-bare-mount (Semantic query permanent prohibited) = refl
-bare-mount (Mount space answers) = refl
-bare-mount other = refl
-
-pub bare-document : (body : Body) → is_document (bare_body body) ≡ is_document body
-bare-document (Semantic query permanent prohibited) = refl
-bare-document (Mount space answers) = refl
-bare-document other = refl
 
 pub bare-query : (body : Body) → query_in (bare_body body) ≡ query_in body
 bare-query (Semantic query permanent prohibited) = refl
@@ -105,7 +81,7 @@ sound-bare (Mount space answers) h = h
 sound-bare other h = h
 
 pub bare-measures : KeepsMeasures bare_body
-bare-measures = record { kind = bare-kind; file = bare-file; symlink = bare-symlink; mount = bare-mount; document = bare-document; queried = (λ body. ap (λ (o : Option (Formula ℕ)). is_some o) (bare-query body)); texts = bare-weight }
+bare-measures = record { kind = kind-bare; texts = bare-weight }
 
 -- What is looked up.
 
@@ -133,13 +109,13 @@ parent_of-bare s n =
     ∙ (elim (entry_at s.entries n) as (λ o. option_map_or (λ (e : Entry). e.parent) (option_map (edited bare_body) o) 0 ≡ option_map_or (λ (e : Entry). e.parent) o 0) [ None ↦ refl | Some e ↦ refl ])
 
 pub directory-bare : (s : State) (n : ℕ) → is_directory_at (bare s).entries n ≡ is_directory_at s.entries n
-directory-bare s n = directory-mapped bare_body s.entries n bare-kind
+directory-bare s n = directory-mapped bare_body s.entries n (keeps-directory bare_body role-bare)
 
 pub file-bare : (s : State) (n : ℕ) → is_file_at (bare s).entries n ≡ is_file_at s.entries n
-file-bare s n = test-mapped is_file bare_body s.entries n bare-file
+file-bare s n = test-mapped is_file bare_body s.entries n (keeps-file bare_body role-bare)
 
 pub symlink-bare : (s : State) (n : ℕ) → is_symlink_at (bare s).entries n ≡ is_symlink_at s.entries n
-symlink-bare s n = test-mapped is_symlink bare_body s.entries n bare-symlink
+symlink-bare s n = test-mapped is_symlink bare_body s.entries n (keeps-symlink bare_body role-bare)
 
 pub some-bare : (s : State) (n : ℕ) → is_some (entry_at (bare s).entries n) ≡ is_some (entry_at s.entries n)
 some-bare s n =
@@ -147,10 +123,10 @@ some-bare s n =
     ∙ (elim (entry_at s.entries n) as (λ o. is_some (option_map (edited bare_body) o) ≡ is_some o) [ None ↦ refl | Some e ↦ refl ])
 
 pub mount-bare : (s : State) (n : ℕ) → is_mount_at (bare s).entries n ≡ is_mount_at s.entries n
-mount-bare s n = test-mapped is_mount bare_body s.entries n bare-mount
+mount-bare s n = test-mapped is_mount bare_body s.entries n (keeps-mount bare_body role-bare)
 
 pub document-bare : (s : State) (n : ℕ) → is_document_at (bare s).entries n ≡ is_document_at s.entries n
-document-bare s n = test-mapped is_document bare_body s.entries n bare-document
+document-bare s n = test-mapped is_document bare_body s.entries n (keeps-document bare_body role-bare)
 
 pub path_of-bare : (s : State) (n : ℕ) → path_of (bare s) n ≡ path_of s n
 path_of-bare s n = path-names (bare s) n ∙ ap reverse (lineage-mapped bare_body s.entries n) ∙ sym (path-names s n)
@@ -312,14 +288,14 @@ dirty-same s = measured-bare (one_if is_dirty) s.entries (λ body. ap (λ (b : B
 pub counts-bare : (s : State) → counts (bare s) ≡ counts s
 counts-bare s = λ i. record {
   bytes = measured-bare file_bytes s.entries bare-weight i;
-  directories = ones is_directory bare-kind i + 1;
-  semantics = ones is_queried (λ body. ap (λ (o : Option (Formula ℕ)). is_some o) (bare-query body)) i;
-  mounts = ones is_mount bare-mount i;
-  symlinks = ones is_symlink bare-symlink i;
-  files = ones is_file bare-file i;
-  items = ones is_linkable (keeps-linkable bare_body bare-file bare-document) i;
+  directories = ones is_directory (keeps-directory bare_body role-bare) i + 1;
+  semantics = ones is_queried (keeps-queried bare_body kind-bare) i;
+  mounts = ones is_mount (keeps-mount bare_body role-bare) i;
+  symlinks = ones is_symlink (keeps-symlink bare_body role-bare) i;
+  files = ones is_file (keeps-file bare_body role-bare) i;
+  items = ones is_linkable (keeps-item bare_body role-bare) i;
   dirty = dirty-same s i;
-  long_paths = cond {A = ℕ} (paths-mapped bare_body s.entries bare-mount i) 0 1;
+  long_paths = cond {A = ℕ} (paths-mapped bare_body s.entries (keeps-mount bare_body role-bare) i) 0 1;
   next = s.next;
 }
   where
@@ -378,7 +354,7 @@ pub layout-unbare : (s : State) → IsLayout (bare s) → IsLayout s
 layout-unbare s h = record {
   numbers = numbers-unmap 0 s.entries s.next h.numbers;
   names = all-unmap (λ (e : Entry). IsTrue (is_name e.name)) (edited bare_body) s.entries h.names;
-  places = all-weaker (λ (e : Entry). IsTrue (is_in_place (bare s).entries (edited bare_body e))) (λ (e : Entry). IsTrue (is_in_place s.entries e)) s.entries (λ e there. sym (place-mapped bare_body s.entries e bare-kind bare-mount bare-document) ∙ there) (all-unmap (λ (e : Entry). IsTrue (is_in_place (bare s).entries e)) (edited bare_body) s.entries h.places);
+  places = all-weaker (λ (e : Entry). IsTrue (is_in_place (bare s).entries (edited bare_body e))) (λ (e : Entry). IsTrue (is_in_place s.entries e)) s.entries (λ e there. sym (place-mapped bare_body s.entries e role-bare) ∙ there) (all-unmap (λ (e : Entry). IsTrue (is_in_place (bare s).entries e)) (edited bare_body) s.entries h.places);
   differ = differ-unmap s.entries h.differ;
   bodies = all-weaker (λ (e : Entry). IsSound (bare_body e.body)) (λ (e : Entry). IsSound e.body) s.entries (λ e sound. bare-sound e.body sound) (all-unmap (λ (e : Entry). IsSound e.body) (edited bare_body) s.entries h.bodies);
   limits = sym (passed-bare s) ∙ h.limits;

@@ -14,7 +14,7 @@ use Rattle.hac_model.specs.Tree.Events.{accepted, added, apply, asking, can_have
 use Rattle.hac_model.specs.Query.Formula.{Formula}
 use Rattle.hac_model.specs.Tree.Limits.{passed_limit}
 use Rattle.hac_model.specs.Tree.Links.{can_be_added, has, is_item}
-use Rattle.hac_model.specs.Tree.{body_at, entry_at, is_directory, is_directory_at, is_file_at, is_leaf_at, is_linkable, is_made_directory, is_mount, permanent_in, query_in}
+use Rattle.hac_model.specs.Tree.{body_at, entry_at, is_directory, is_directory_at, is_leaf_at, is_linkable, is_made_directory, is_mount, permanent_in, query_in}
 use Rattle.hac_model.specs.Tree.Valid.{AreMarks, AsksWell, IsLayout, IsValid}
 use Rattle.hac_model.specs.declared.events.Event.{Event}
 use Rattle.hac_model.specs.declared.events.Event.TheVariants.{Mkdir, NewFile, Rewrite, Ln, Mark, Mv, Rm, Rmdir, Setq, Smkdir, Step, Unq, Cd}
@@ -25,15 +25,15 @@ use Rattle.hac_model.specs.declared.states.Body.TheVariants.{Dir, Document, File
 use Rattle.hac_model.specs.declared.states.Entry.{Entry}
 use Rattle.hac_model.specs.declared.states.State.{State}
 use Rattle.hac_model.proofs.ChangeLemmas.{all-append, all-both, all-changed, all-filter, all-weaker, directory-append, directory-changed, directory-kept, entry_at-append, entry_at-kept, is_kept, test-changed}
-use Rattle.hac_model.proofs.CountLemmas.{indexed-keeps, keeps-linkable, rewritten-keeps}
 use Rattle.hac_model.proofs.MapLemmas.{all-map, directory-mapped, test-mapped}
 use Rattle.hac_model.proofs.MarkLemmas.{all-passes, forgetting-asks, marked-asks}
 use Rattle.hac_model.proofs.PathLemmas.{root-none}
 use Rattle.hac_model.proofs.GainLemmas.{ask-told, told-valid}
 use Rattle.hac_model.specs.Tree.Asking.{with_told}
 use Rattle.hac_model.proofs.StayLemmas.{DirectoriesStay, ItemsStay, added-stays, all-stay, ask-stays, marks-stay}
-use Rattle.hac_model.proofs.TreeLemmas.{directory-no_item, directory-no_leaf, file-leaf}
-use Rattle.hac_model.proofs.ValidLemmas.{accepted-parts, asking-kind, forgetting-measures, mark-parts, marked-kind, plain-kind, rmdir-parts, setq-parts, smkdir-parts}
+use Rattle.hac_model.proofs.TreeLemmas.{directory-no_item, directory-no_leaf}
+use Rattle.hac_model.proofs.ValidLemmas.{accepted-parts, mark-parts, rmdir-parts, setq-parts, smkdir-parts}
+use Rattle.hac_model.proofs.KindLemmas.{role-asking, role-forgetting, role-indexed, role-marked, role-plain, role-rewritten, keeps-directory, keeps-item}
 
 -- An entry is added.
 
@@ -77,30 +77,6 @@ plain-asks : (s : State) (body : Body) → AsksWell s body → AsksWell s (plain
 plain-asks s (Semantic query permanent prohibited) h = tt
 plain-asks s other h = tt
 
--- what can be linked stays what can be linked
-
-asking-items : (query : Formula ℕ) (body : Body) → is_linkable (asking query body) ≡ is_linkable body
-asking-items query Dir = refl
-asking-items query (Semantic old permanent prohibited) = refl
-asking-items query other = refl
-
-plain-items : (body : Body) → is_linkable (plain_body body) ≡ is_linkable body
-plain-items (Semantic query permanent prohibited) = refl
-plain-items other = refl
-
-marked-items : (n : ℕ) (kind : Kind) (body : Body) → is_linkable (marked n kind body) ≡ is_linkable body
-marked-items n Permanent (Semantic query permanent prohibited) = refl
-marked-items n Prohibited (Semantic query permanent prohibited) = refl
-marked-items n Transient (Semantic query permanent prohibited) = refl
-marked-items n Unlinked (Semantic query permanent prohibited) = refl
-marked-items n Permanent other = refl
-marked-items n Prohibited other = refl
-marked-items n Transient other = refl
-marked-items n Unlinked other = refl
-
-forgetting-items : (n : ℕ) (body : Body) → is_linkable (forgetting n body) ≡ is_linkable body
-forgetting-items n = keeps-linkable (forgetting n) (forgetting-measures n).file (forgetting-measures n).document
-
 -- what can have a mark can still have it, where directories and items stay
 marking-stays : (s t : State) (n : ℕ) (kind : Kind) → (is_directory_at s.entries n ≡ true → is_directory_at t.entries n ≡ true) → (is_item s n ≡ true → is_item t n ≡ true) → can_have_mark s n kind ≡ true → can_have_mark t n kind ≡ true
 marking-stays s t n Prohibited dirs items can = items can
@@ -121,9 +97,6 @@ pub leaf-no_directory : (s : State) (leaf d : ℕ) → IsLayout s → is_leaf_at
 leaf-no_directory s leaf d h there dir same =
     let other : is_leaf_at s.entries d ≡ false = directory-no_leaf s.entries d (root-none s h) dir in
     let never : true ≡ false = sym there ∙ ap (is_leaf_at s.entries) same ∙ other in cc
-
-pub file-no_directory : (s : State) (file d : ℕ) → IsLayout s → is_file_at s.entries file ≡ true → is_directory_at s.entries d ≡ true → file ≡ d → ⊥
-file-no_directory s file d h there dir = leaf-no_directory s file d h (file-leaf s.entries file there) dir
 
 -- an item is no directory
 pub item-no_directory : (s : State) (item d : ℕ) → IsLayout s → is_item s item ≡ true → is_directory_at s.entries d ≡ true → item ≡ d → ⊥
@@ -147,12 +120,12 @@ forgotten-asks s file (Semantic query permanent prohibited) h there asks =
 
     item : (n : ℕ) → is_item s n ≡ true → not (n == file) ≡ true → is_item t n ≡ true
     item n there other =
-        test-mapped is_linkable (forgetting file) (filter (is_kept file) s.entries) n (forgetting-items file)
+        test-mapped is_linkable (forgetting file) (filter (is_kept file) s.entries) n (keeps-item (forgetting file) (role-forgetting file))
         ∙ ap (λ (o : Option Entry). option_map_or is_linkable (option_map (λ (e : Entry). e.body) o) false) (entry_at-kept file s.entries n (λ same. eqb-false n file (not-true (n == file) other) (sym same)))
         ∙ there
 
     directory : (d : ℕ) → is_directory_at s.entries d ≡ true → is_directory_at t.entries d ≡ true
-    directory d dir = directory-mapped (forgetting file) (filter (is_kept file) s.entries) d (forgetting-measures file).kind ∙ directory-kept file s.entries d (leaf-no_directory s file d h there dir) ∙ dir
+    directory d dir = directory-mapped (forgetting file) (filter (is_kept file) s.entries) d (keeps-directory (forgetting file) (role-forgetting file)) ∙ directory-kept file s.entries d (leaf-no_directory s file d h there dir) ∙ dir
 
     marks : (test kept : ℕ → Bool) → ((n : ℕ) → test n ≡ true → not (n == file) ≡ true → kept n ≡ true) → (xs : List ℕ) → AreMarks test (without file xs) → AreMarks kept (without file xs)
     marks test kept stay xs m = record {
@@ -202,7 +175,7 @@ all-unreferenced s dir (e ∷ es) h made apart asks =
 pub apply-queries : (s : State) (event : Event) → IsValid s → IsTrue (accepted s event) → AllByRecursion (λ e. AsksWell (apply s event) e.body) (apply s event).entries
 apply-queries s (Mkdir dir name) h ok = added-asks s dir name Dir h tt
 apply-queries s (NewFile dir name text) h ok = added-asks s dir name (File text true None) h tt
-apply-queries s (Rewrite file text) h ok = changed-asks s file (edited (rewritten text)) (λ e. refl) (λ e. (rewritten-keeps text).directories e.body) (λ e. keeps-linkable (rewritten text) (rewritten-keeps text).files (rewritten-keeps text).documents e.body) (λ e there. rewritten-asks (apply s (Rewrite file text)) text e.body there) h
+apply-queries s (Rewrite file text) h ok = changed-asks s file (edited (rewritten text)) (λ e. refl) (λ e. keeps-directory (rewritten text) (role-rewritten text) e.body) (λ e. keeps-item (rewritten text) (role-rewritten text) e.body) (λ e there. rewritten-asks (apply s (Rewrite file text)) text e.body there) h
 apply-queries s (Ln dir name target) h ok = added-asks s dir name (Symlink target) h tt
 apply-queries s (Smkdir dir name query told) h ok =
     let parts = accepted-parts (is_possible s (Smkdir dir name query told)) (passed_limit (apply s (Smkdir dir name query told))) ok in
@@ -216,15 +189,15 @@ apply-queries s (Setq dir query told) h ok =
     let asks = setq-parts s dir query told parts.0 in
     let old : State = with_told query told s in
     let t : State = changed_at old dir (edited (asking query)) in
-    let fits = ask-stays old t query (λ d inside there. edited-directories old dir (asking query) (asking-kind query) d there) (ask-told s query told query ∙ asks.1) in
-    changed-asks old dir (edited (asking query)) (λ e. refl) (λ e. asking-kind query e.body) (λ e. asking-items query e.body) (λ e there. asking-asks t query e.body fits there) (told-valid s query told h asks.1 asks.3 asks.5)
-apply-queries s (Unq dir) h ok = changed-asks s dir (edited plain_body) (λ e. refl) (λ e. plain-kind e.body) (λ e. plain-items e.body) (λ e there. plain-asks (apply s (Unq dir)) e.body there) h
+    let fits = ask-stays old t query (λ d inside there. edited-directories old dir (asking query) (keeps-directory (asking query) (role-asking query)) d there) (ask-told s query told query ∙ asks.1) in
+    changed-asks old dir (edited (asking query)) (λ e. refl) (λ e. (keeps-directory (asking query) (role-asking query)) e.body) (λ e. (keeps-item (asking query) (role-asking query)) e.body) (λ e there. asking-asks t query e.body fits there) (told-valid s query told h asks.1 asks.3 asks.5)
+apply-queries s (Unq dir) h ok = changed-asks s dir (edited plain_body) (λ e. refl) (λ e. (keeps-directory plain_body role-plain) e.body) (λ e. (keeps-item plain_body role-plain) e.body) (λ e there. plain-asks (apply s (Unq dir)) e.body there) h
 apply-queries s (Mark mark) h ok =
     let edit : Body → Body = marked mark.item mark.kind in
     let parts = accepted-parts (is_possible s (Mark mark)) (passed_limit (changed_at s mark.dir (edited edit))) ok in
     let t : State = changed_at s mark.dir (edited edit) in
-    let can : can_have_mark t mark.item mark.kind ≡ true = marking-stays s t mark.item mark.kind (edited-directories s mark.dir edit (marked-kind mark.item mark.kind) mark.item) (edited-items s mark.dir edit (marked-items mark.item mark.kind) mark.item) (mark-parts s mark.dir mark.item mark.kind parts.0).0 in
-    changed-asks s mark.dir (edited edit) (λ e. refl) (λ e. marked-kind mark.item mark.kind e.body) (λ e. marked-items mark.item mark.kind e.body) (λ e there. marked-asks t mark.item mark.kind e.body can there) h
+    let can : can_have_mark t mark.item mark.kind ≡ true = marking-stays s t mark.item mark.kind (edited-directories s mark.dir edit (keeps-directory (marked mark.item mark.kind) (role-marked mark.item mark.kind)) mark.item) (edited-items s mark.dir edit (keeps-item (marked mark.item mark.kind) (role-marked mark.item mark.kind)) mark.item) (mark-parts s mark.dir mark.item mark.kind parts.0).0 in
+    changed-asks s mark.dir (edited edit) (λ e. refl) (λ e. (keeps-directory (marked mark.item mark.kind) (role-marked mark.item mark.kind)) e.body) (λ e. (keeps-item (marked mark.item mark.kind) (role-marked mark.item mark.kind)) e.body) (λ e there. marked-asks t mark.item mark.kind e.body can there) h
 apply-queries s (Mv entry dir name) h ok = changed-asks s entry (reseated dir name) (λ e. refl) (λ e. refl) (λ e. refl) (λ e there. there) h
 apply-queries s (Rm file) h ok =
     let parts = accepted-parts (is_leaf_at s.entries file) (passed_limit (forgotten (removed s file) file)) ok in
@@ -238,7 +211,7 @@ apply-queries s (Rmdir dir) h ok =
     all-filter (λ e. AsksWell (removed s dir) e.body) (is_kept dir) s.entries (all-unreferenced s dir s.entries h.layout fits.0 fits.2 h.queries)
 apply-queries s Step h ok = elim (next_dirty s.entries) as (λ o. AllByRecursion (λ e. AsksWell (option_map_or (λ file. changed_at s file (edited indexed)) o s) e.body) (option_map_or (λ file. changed_at s file (edited indexed)) o s).entries) [
   | None ↦ h.queries
-  | Some file ↦ changed-asks s file (edited indexed) (λ e. refl) (λ e. indexed-keeps.directories e.body) (λ e. keeps-linkable indexed indexed-keeps.files indexed-keeps.documents e.body) (λ e there. indexed-asks (changed_at s file (edited indexed)) e.body there) h
+  | Some file ↦ changed-asks s file (edited indexed) (λ e. refl) (λ e. keeps-directory indexed role-indexed e.body) (λ e. keeps-item indexed role-indexed e.body) (λ e there. indexed-asks (changed_at s file (edited indexed)) e.body there) h
 ]
 apply-queries s (Cd session dir) h ok = all-stay s (apply s (Cd session dir)) (λ d there. there) (λ n there. there) h.queries
 apply-queries s (Smount dir name space documents told) h ok = mounted-queries s dir name space (answers_to (terms_to_ask s.entries) told) documents h

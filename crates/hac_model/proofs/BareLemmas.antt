@@ -23,7 +23,8 @@ use Rattle.hac_model.specs.Tree.Asking.{with_told}
 use Rattle.hac_model.proofs.GainLemmas.{bare-told}
 use Rattle.hac_model.proofs.MapLemmas.{child-mapped}
 use Rattle.hac_model.specs.declared.versions.Version.{Version}
-use Rattle.hac_model.proofs.AlikeLemmas.{bare-dirty, bare-document}
+use Rattle.hac_model.proofs.AlikeLemmas.{bare-dirty}
+use Rattle.hac_model.proofs.KindLemmas.{role-bare, keeps-document}
 
 -- what is bare stays so
 bare-again : (body : Body) → bare_body (bare_body body) ≡ bare_body body
@@ -197,7 +198,7 @@ without-bare test (e ∷ es) same =
     ] ∙ ap (λ (b : Bool). map (edited bare_body) (if not b then edited bare_body e ∷ filter (λ e. not (test e)) (map (edited bare_body) es) else filter (λ e. not (test e)) (map (edited bare_body) es))) (sym (same e))
 
 pub gone-bare : (mount : ℕ) (names : List (List ℕ)) → PassesBare (is_gone mount names)
-gone-bare mount names e = ap (λ (b : Bool). b && (e.parent == mount && not (is_among names e.name))) (bare-document e.body)
+gone-bare mount names e = ap (λ (b : Bool). b && (e.parent == mount && not (is_among names e.name))) (keeps-document bare_body role-bare e.body)
 
 fresh-bare : (es : List Entry) (mount : ℕ) (names : List (List ℕ)) → filter (λ name. is_none (child (map (edited bare_body) es) mount name)) names ≡ filter (λ name. is_none (child es mount name)) names
 fresh-bare es mount [] = refl

@@ -12,6 +12,7 @@ use Rattle.hac_model.specs.Tree.{body_at, child, entry_at, is_directory, is_dire
 use Rattle.hac_model.specs.Tree.Valid.{NamesDiffer, NumbersRise}
 use Rattle.hac_model.specs.declared.states.Body.{Body}
 use Rattle.hac_model.specs.declared.states.Entry.{Entry}
+pub use Rattle.hac_model.proofs.BoolLemmas.{and-true, or-turned}
 
 -- Tests joined.
 
@@ -259,12 +260,3 @@ numbers-kept n above es next h = numbers-filter (is_kept n) above es next h
 
 pub differ-kept : (n : ℕ) (es : List Entry) → NamesDiffer es → NamesDiffer (filter (is_kept n) es)
 differ-kept n es h = differ-filter (is_kept n) es h
-
-pub or-turned : (a b c : Bool) → (a || (b || c)) ≡ (b || (a || c))
-or-turned true true c = refl
-or-turned true false c = refl
-or-turned false b c = refl
-
-pub and-true : (b : Bool) → (b && true) ≡ b
-and-true true = refl
-and-true false = refl

@@ -4,14 +4,15 @@ use Rattle.std.specs.Prelude.{◌==◌, ◌||◌, not, filter, sum_by, Some, is_
 use Rattle.std.proofs.lemmas.Bool.{eqb-true, ne_eqb}
 use Rattle.std.proofs.lemmas.List.Sums.{sum_by-cons, sum_by_push}
 use Rattle.hac_model.specs.Tree.Events.{changed_in, changed_at, edited, indexed, reseated, rewritten}
-use Rattle.hac_model.specs.Tree.Limits.{directory_count, dirty_count, file_count, item_count, mount_count, semantic_count, symlink_count, text_size, file_bytes}
-use Rattle.hac_model.specs.Tree.{entry_at, is_directory, is_dirty, is_document, is_file, is_linkable, is_mount, is_symlink, query_in}
+use Rattle.hac_model.specs.Tree.Limits.{directory_count, dirty_count, item_count, mount_count, semantic_count, symlink_count, text_size, file_bytes}
+use Rattle.hac_model.specs.Tree.{entry_at, is_directory, is_dirty, is_linkable, is_mount, is_queried, is_symlink}
 use Rattle.hac_model.specs.Tree.Valid.{NumbersRise}
 use Rattle.hac_model.specs.declared.states.Body.{Body}
 use Rattle.hac_model.specs.declared.states.Body.TheVariants.{File}
 use Rattle.hac_model.specs.declared.states.Entry.{Entry}
 use Rattle.hac_model.specs.declared.states.State.{State}
 use Rattle.hac_model.proofs.ChangeLemmas.{changed-low, is_kept, touched}
+use Rattle.hac_model.proofs.KindLemmas.{KeepsKind, keeps-role, keeps-directory, keeps-item, keeps-mount, keeps-queried, keeps-symlink}
 
 -- a measure of bodies, summed over the entries
 abbrev pub measured : (Body → ℕ) → List Entry → ℕ
@@ -20,9 +21,6 @@ measured f es = sum_by (λ (e : Entry). f e.body) es
 -- one where the body passes
 abbrev pub one_if : (Body → Bool) → Body → ℕ
 one_if test body = cond {A = ℕ} (test body) 1 0
-
-abbrev pub is_queried : Body → Bool
-is_queried body = is_some (query_in body)
 
 pub measured-cons : (f : Body → ℕ) (e : Entry) (es : List Entry) → measured f (e ∷ es) ≡ f e.body + measured f es
 measured-cons f e es = sum_by-cons (λ (e : Entry). f e.body) e es
@@ -107,94 +105,22 @@ directory_count-is es = refl
 pub dirty_count-is : (es : List Entry) → dirty_count es ≡ measured (one_if is_dirty) es
 dirty_count-is es = refl
 
--- After an entry was added.
-
--- After a body was edited. Counts of kinds stay where the edit keeps the kind, as those of texts do.
-
--- the edit leaves files files, and queries as they are
-pub record KeepsKind (edit : Body → Body) : Type 0 where
-  pub directories : (body : Body) → is_directory (edit body) ≡ is_directory body
-  pub queries : (body : Body) → is_queried (edit body) ≡ is_queried body
-  pub files : (body : Body) → is_file (edit body) ≡ is_file body
-  pub symlinks : (body : Body) → is_symlink (edit body) ≡ is_symlink body
-  pub mounts : (body : Body) → is_mount (edit body) ≡ is_mount body
-  pub documents : (body : Body) → is_document (edit body) ≡ is_document body
-
--- so what can be linked stays what can be linked
-pub keeps-linkable : (edit : Body → Body) → ((body : Body) → is_file (edit body) ≡ is_file body) → ((body : Body) → is_document (edit body) ≡ is_document body) → (body : Body) → is_linkable (edit body) ≡ is_linkable body
-keeps-linkable edit files documents body = λ i. files body i || documents body i
-
-pub rewritten-keeps : (text : List ℕ) → KeepsKind (rewritten text)
-rewritten-keeps text = record { directories = directories; queries = queries; files = files; symlinks = symlinks; mounts = mounts; documents = documents }
-  where
-    directories : (body : Body) → is_directory (rewritten text body) ≡ is_directory body
-    directories (File old dirty shown) = refl
-    directories other = refl
-
-    queries : (body : Body) → is_queried (rewritten text body) ≡ is_queried body
-    queries (File old dirty shown) = refl
-    queries other = refl
-
-    files : (body : Body) → is_file (rewritten text body) ≡ is_file body
-    files (File old dirty shown) = refl
-    files other = refl
-
-    symlinks : (body : Body) → is_symlink (rewritten text body) ≡ is_symlink body
-    symlinks (File old dirty shown) = refl
-    symlinks other = refl
-
-    mounts : (body : Body) → is_mount (rewritten text body) ≡ is_mount body
-    mounts (File old dirty shown) = refl
-    mounts other = refl
-
-    documents : (body : Body) → is_document (rewritten text body) ≡ is_document body
-    documents (File old dirty shown) = refl
-    documents other = refl
-
-pub indexed-keeps : KeepsKind indexed
-indexed-keeps = record { directories = directories; queries = queries; files = files; symlinks = symlinks; mounts = mounts; documents = documents }
-  where
-    directories : (body : Body) → is_directory (indexed body) ≡ is_directory body
-    directories (File old dirty shown) = refl
-    directories other = refl
-
-    queries : (body : Body) → is_queried (indexed body) ≡ is_queried body
-    queries (File old dirty shown) = refl
-    queries other = refl
-
-    files : (body : Body) → is_file (indexed body) ≡ is_file body
-    files (File old dirty shown) = refl
-    files other = refl
-
-    symlinks : (body : Body) → is_symlink (indexed body) ≡ is_symlink body
-    symlinks (File old dirty shown) = refl
-    symlinks other = refl
-
-    mounts : (body : Body) → is_mount (indexed body) ≡ is_mount body
-    mounts (File old dirty shown) = refl
-    mounts other = refl
-
-    documents : (body : Body) → is_document (indexed body) ≡ is_document body
-    documents (File old dirty shown) = refl
-    documents other = refl
+-- After a body was edited counts of kinds stay where the edit keeps the kind.
 
 pub directory_count-edited : (s : State) (n : ℕ) (edit : Body → Body) → KeepsKind edit → directory_count (changed_at s n (edited edit)).entries ≡ directory_count s.entries
-directory_count-edited s n edit keeps = ap (λ (k : ℕ). k + 1) (measured-same (one_if is_directory) n (edited edit) s.entries (λ e. ap (λ (b : Bool). cond {A = ℕ} b 1 0) (keeps.directories e.body)))
+directory_count-edited s n edit keeps = ap (λ (k : ℕ). k + 1) (measured-same (one_if is_directory) n (edited edit) s.entries (λ e. ap (λ (b : Bool). cond {A = ℕ} b 1 0) (keeps-directory edit (keeps-role edit keeps) e.body)))
 
 pub semantic_count-edited : (s : State) (n : ℕ) (edit : Body → Body) → KeepsKind edit → semantic_count (changed_at s n (edited edit)).entries ≡ semantic_count s.entries
-semantic_count-edited s n edit keeps = measured-same (one_if is_queried) n (edited edit) s.entries (λ e. ap (λ (b : Bool). cond {A = ℕ} b 1 0) (keeps.queries e.body))
-
-pub file_count-edited : (s : State) (n : ℕ) (edit : Body → Body) → KeepsKind edit → file_count (changed_at s n (edited edit)).entries ≡ file_count s.entries
-file_count-edited s n edit keeps = measured-same (one_if is_file) n (edited edit) s.entries (λ e. ap (λ (b : Bool). cond {A = ℕ} b 1 0) (keeps.files e.body))
+semantic_count-edited s n edit keeps = measured-same (one_if is_queried) n (edited edit) s.entries (λ e. ap (λ (b : Bool). cond {A = ℕ} b 1 0) (keeps-queried edit keeps e.body))
 
 pub symlink_count-edited : (s : State) (n : ℕ) (edit : Body → Body) → KeepsKind edit → symlink_count (changed_at s n (edited edit)).entries ≡ symlink_count s.entries
-symlink_count-edited s n edit keeps = measured-same (one_if is_symlink) n (edited edit) s.entries (λ e. ap (λ (b : Bool). cond {A = ℕ} b 1 0) (keeps.symlinks e.body))
+symlink_count-edited s n edit keeps = measured-same (one_if is_symlink) n (edited edit) s.entries (λ e. ap (λ (b : Bool). cond {A = ℕ} b 1 0) (keeps-symlink edit (keeps-role edit keeps) e.body))
 
 pub mount_count-edited : (s : State) (n : ℕ) (edit : Body → Body) → KeepsKind edit → mount_count (changed_at s n (edited edit)).entries ≡ mount_count s.entries
-mount_count-edited s n edit keeps = measured-same (one_if is_mount) n (edited edit) s.entries (λ e. ap (λ (b : Bool). cond {A = ℕ} b 1 0) (keeps.mounts e.body))
+mount_count-edited s n edit keeps = measured-same (one_if is_mount) n (edited edit) s.entries (λ e. ap (λ (b : Bool). cond {A = ℕ} b 1 0) (keeps-mount edit (keeps-role edit keeps) e.body))
 
 pub item_count-edited : (s : State) (n : ℕ) (edit : Body → Body) → KeepsKind edit → item_count (changed_at s n (edited edit)).entries ≡ item_count s.entries
-item_count-edited s n edit keeps = measured-same (one_if is_linkable) n (edited edit) s.entries (λ e. ap (λ (b : Bool). cond {A = ℕ} b 1 0) (keeps-linkable edit keeps.files keeps.documents e.body))
+item_count-edited s n edit keeps = measured-same (one_if is_linkable) n (edited edit) s.entries (λ e. ap (λ (b : Bool). cond {A = ℕ} b 1 0) (keeps-item edit (keeps-role edit keeps) e.body))
 
 -- a text that is shown weighs no more than before
 pub indexed-lighter : (body : Body) → file_bytes (indexed body) ≤ file_bytes body

@@ -7,14 +7,14 @@ use Rattle.std.proofs.lemmas.Bool.{and_from, and_parts, eqb-false}
 use Rattle.std.proofs.lemmas.List.{length-map}
 use Rattle.hac_model.specs.Tree.Events.{changed_in, edited}
 use Rattle.hac_model.specs.Tree.Limits.{are_paths_short, has_short_path}
-use Rattle.hac_model.specs.Tree.{ancestors, entry_at, is_mount, is_path_short, lineage}
+use Rattle.hac_model.specs.Tree.{ancestors, entry_at, is_mount, lineage}
 use Rattle.hac_model.specs.declared.limits.TheConstants.{PATH_LIMIT}
 use Rattle.hac_model.specs.Tree.Valid.{IsLayout}
 use Rattle.hac_model.specs.declared.states.Body.{Body}
 use Rattle.hac_model.specs.declared.states.Entry.{Entry}
 use Rattle.hac_model.specs.declared.states.State.{State}
 use Rattle.hac_model.proofs.ChangeLemmas.{entry_at-changed, entry_at-kept, is_kept, touched, touched-keeps}
-use Rattle.hac_model.proofs.PathLemmas.{ancestors_by, limit, lineage-is, root-none, short-is}
+use Rattle.hac_model.proofs.PathLemmas.{ancestors_by, limit, lineage-is, root-none}
 use Rattle.hac_model.proofs.TreeLemmas.{entry_at-all}
 
 -- what has an entry is no root
@@ -25,14 +25,7 @@ entry-no_root s n e h found here = let none : entry_at s.entries n ≡ None = su
 abbrev pub names_of : List Entry → List (List ℕ)
 names_of es = map (λ (e : Entry). e.name) es
 
--- a path is short or not by how many names it has
-pub short-names : (es other : List Entry) (n m : ℕ) → length (names_of (lineage es n)) ≡ length (names_of (lineage other m)) → is_path_short es n ≡ is_path_short other m
-short-names es other n m same =
-    short-is es n
-    ∙ ap (λ (k : ℕ). nat_le k limit) (sym (length-map (lineage es n) (λ (e : Entry). e.name)) ∙ same ∙ length-map (lineage other m) (λ (e : Entry). e.name))
-    ∙ sym (short-is other m)
-
--- so it fits or doesn't, where both are mounts or neither is
+-- a path fits or doesn't by how many names it has, where both are mounts or neither is
 pub path-alike : (es other : List Entry) (e f : Entry) → length (names_of (lineage es e.number)) ≡ length (names_of (lineage other f.number)) → is_mount e.body ≡ is_mount f.body → has_short_path es e ≡ has_short_path other f
 path-alike es other e f same kind = λ i. nat_le (even i + cond {A = ℕ} (kind i) 1 0) PATH_LIMIT
   where

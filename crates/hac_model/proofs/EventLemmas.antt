@@ -57,6 +57,7 @@ use Rattle.hac_model.proofs.PassedLemmas.{step-passes}
 use Rattle.hac_model.proofs.TreeLemmas.{is-live, entry_at-above, entry_at-behind, entry_at-first}
 use Rattle.hac_model.specs.Query.Formula.{Formula}
 use Rattle.hac_model.proofs.VersionLemmas.{few-any}
+use Rattle.hac_model.proofs.BoolLemmas.{and-true}
 
 -- The events of a command that isn't refused can happen.
 
@@ -121,10 +122,6 @@ clean-indexed other = refl
 -- a step can happen just where a file is dirty
 pub steps-due : (s : State) → IsLayout s → accepted s Step ≡ nat_lt 0 (dirty s)
 steps-due s h = ap (λ (o : Option LimitWord). is_some (next_dirty s.entries) && is_none o) (step-passes s h) ∙ and-true (is_some (next_dirty s.entries)) ∙ due s.entries
-  where
-    and-true : (b : Bool) → (b && true) ≡ b
-    and-true true = refl
-    and-true false = refl
 
 -- and leaves one file less dirty
 pub steps-clean : (s : State) → IsLayout s → IsTrue (accepted s Step) → dirty s ≡ dirty (apply s Step) + 1

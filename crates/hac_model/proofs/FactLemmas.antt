@@ -26,7 +26,7 @@ use Rattle.hac_model.specs.declared.states.Body.TheVariants.{File, Dir, Symlink,
 use Rattle.hac_model.specs.declared.states.Entry.{Entry}
 use Rattle.hac_model.specs.declared.states.State.{State}
 use Rattle.hac_model.specs.declared.terms.Term.{Term}
-use Rattle.hac_model.proofs.AlikeLemmas.{bare-mount, directory-bare, parent_of-bare, query_at-bare}
+use Rattle.hac_model.proofs.AlikeLemmas.{directory-bare, parent_of-bare, query_at-bare}
 use Rattle.hac_model.proofs.AskLemmas.{added-directories, item-no_directory, leaf-no_directory, test-append}
 use Rattle.hac_model.proofs.ChangeLemmas.{all-both, all-filter, all-weaker, directory-changed, directory-kept, entry_at-gone, is_kept}
 use Rattle.hac_model.proofs.GainLemmas.{directory-told, entry_at-gains, item-told, layout-told, made-told, mount-told, parent-told}
@@ -37,8 +37,9 @@ use Rattle.hac_model.proofs.MapLemmas.{directory-mapped, entry_at-mapped}
 use Rattle.hac_model.proofs.MarkLemmas.{all-passes}
 use Rattle.hac_model.proofs.MountAskLemmas.{cleared-added, cleared-directory, extended, extended-directories, extended-items, gone-directory, keeping-directories, keeping-items, of_mount-directory}
 use Rattle.hac_model.proofs.MountFactLemmas.{facts_by, gone_at-bare, mounted-facts, of_mount_at-bare, synced-facts, terms-bare, unmounted-facts}
-use Rattle.hac_model.proofs.ValidLemmas.{accepted-parts, asking-kind, forgetting-measures, indexed-kind, mark-parts, marked-kind, plain-kind, rewritten-kind, rmdir-parts, setq-parts}
+use Rattle.hac_model.proofs.ValidLemmas.{accepted-parts, mark-parts, rmdir-parts, setq-parts}
 use Rattle.hac_model.proofs.ViewLemmas.{seen-added, seen-changed, seen-kept, seen-plain, seen-removed}
+use Rattle.hac_model.proofs.KindLemmas.{role-forgetting, role-asking, role-bare, role-indexed, role-marked, role-plain, role-rewritten, keeps-directory, keeps-mount}
 
 abbrev forgotten_facts : ℕ → Facts → Facts
 forgotten_facts item facts = record facts { marks = without_item item facts.marks }
@@ -88,12 +89,9 @@ module _ (is_dir : ℕ → Bool) where
   asking-facts query (Some e) made holder = body e.body made holder
     where
       body : (b : Body) → is_directory b ≡ true → is_mount b ≡ false → facts_in is_dir e.parent (asking query b) ≡ with_edges e.parent (Some query) (facts_in is_dir e.parent b).marks (facts_in is_dir e.parent b)
-      body (File text dirty shown) made holder = absurd cc
       body Dir made holder = refl
-      body (Symlink target) made holder = absurd cc
       body (Semantic old permanent prohibited) made holder = refl
-      body (Mount space answers) made holder = absurd cc
-      body Document made holder = absurd cc
+      body other made holder = absurd cc
 
   -- a semantic directory loses it
   plain-facts : (o : Option Entry) → is_some (query_of o) ≡ true → facts_at is_dir (option_map (edited plain_body) o) ≡ no_facts
@@ -101,12 +99,8 @@ module _ (is_dir : ℕ → Bool) where
   plain-facts (Some e) semantic = body e.body semantic
     where
       body : (b : Body) → is_some (query_in b) ≡ true → facts_in is_dir e.parent (plain_body b) ≡ no_facts
-      body (File text dirty shown) semantic = absurd cc
-      body Dir semantic = absurd cc
-      body (Symlink target) semantic = absurd cc
       body (Semantic query permanent prohibited) semantic = refl
-      body (Mount space answers) semantic = absurd cc
-      body Document semantic = absurd cc
+      body other semantic = absurd cc
 
   -- or gets a mark
   marked-facts : (item : ℕ) (kind : Kind) (o : Option Entry) → is_some (query_of o) ≡ true →
@@ -115,15 +109,11 @@ module _ (is_dir : ℕ → Bool) where
   marked-facts item kind (Some e) semantic = body kind e.body semantic
     where
       body : (kind : Kind) (b : Body) → is_some (query_in b) ≡ true → facts_in is_dir e.parent (marked item kind b) ≡ with_edges e.parent (query_in b) (with_mark kind item (facts_in is_dir e.parent b).marks) (facts_in is_dir e.parent b)
-      body kind (File text dirty shown) semantic = absurd cc
-      body kind Dir semantic = absurd cc
-      body kind (Symlink target) semantic = absurd cc
       body Transient (Semantic query permanent prohibited) semantic = refl
       body Permanent (Semantic query permanent prohibited) semantic = refl
       body Prohibited (Semantic query permanent prohibited) semantic = refl
       body Unlinked (Semantic query permanent prohibited) semantic = refl
-      body kind (Mount space answers) semantic = absurd cc
-      body kind Document semantic = absurd cc
+      body kind other semantic = absurd cc
 
   -- an entry goes elsewhere
   reseated-facts : (dir : ℕ) (name : List ℕ) (o : Option Entry) → facts_at is_dir (option_map (reseated dir name) o) ≡ with_edges dir (query_of o) (facts_at is_dir o).marks (facts_at is_dir o)
@@ -158,11 +148,8 @@ module _ (is_dir : ℕ → Bool) where
     where
       body : (b : Body) → is_leaf b ≡ true → facts_in is_dir e.parent b ≡ no_facts
       body (File text dirty shown) leaf = refl
-      body Dir leaf = absurd cc
       body (Symlink target) leaf = refl
-      body (Semantic query permanent prohibited) leaf = absurd cc
-      body (Mount space answers) leaf = absurd cc
-      body Document leaf = absurd cc
+      body other leaf = absurd cc
 
   removed-facts : (s : State) (item : ℕ) → is_dir item ≡ false → is_leaf_at s.entries item ≡ true → (n : ℕ) → facts_by is_dir (apply s (Rm item)) n ≡ forgotten_facts item (facts_by is_dir s n)
   removed-facts s item plain leaf n =
@@ -241,7 +228,7 @@ gained-bare kept query told (x ∷ es) n = λ i.
     else (ap (λ (terms : List Term). gained kept query (drop (length terms) told) (map (edited bare_body) es) n) asked ∙ gained-bare kept query (drop (length (asked_by kept query x)) told) es n) i
   where
     asked : asked_by kept query (edited bare_body x) ≡ asked_by kept query x
-    asked = ap (λ (b : Bool). if b then unanswered query (kept x.number) else []) (bare-mount x.body)
+    asked = ap (λ (b : Bool). if b then unanswered query (kept x.number) else []) (keeps-mount bare_body role-bare x.body)
 
 told-bare : (s : State) (query : Formula ℕ) (told : List (List ℕ)) (facts : ℕ → Facts) (n : ℕ) → facts_told query told (bare s) facts n ≡ facts_told query told s facts n
 told-bare s query told facts n = ap (λ (more : List Answer). record (facts n) { answers = with_answers more (facts n).answers }) (gained-bare (λ m. (facts m).answers) query told s.entries n)
@@ -346,7 +333,7 @@ module _ (s : State) (h : IsValid s) where
   lenders-stay (Mkdir dir name) ok n = added-same dir name Dir (apply-layout s (Mkdir dir name) h.layout ok) n
   lenders-stay (NewFile dir name text) ok n = added-same dir name (File text true None) (apply-layout s (NewFile dir name text) h.layout ok) n
   lenders-stay (Ln dir name target) ok n = added-same dir name (Symlink target) (apply-layout s (Ln dir name target) h.layout ok) n
-  lenders-stay (Rewrite file text) ok n = always (changed-same file (edited (rewritten text)) (λ e. refl) (λ e. rewritten-kind text e.body)) (facts_of s n).marks.permanent
+  lenders-stay (Rewrite file text) ok n = always (changed-same file (edited (rewritten text)) (λ e. refl) (λ e. (keeps-directory (rewritten text) (role-rewritten text)) e.body)) (facts_of s n).marks.permanent
   lenders-stay (Smkdir dir name query told) ok n =
       let t : State = with_told query told s in
       put-all (IsSame s (apply s (Smkdir dir name query told))) (facts_told query told s (facts_of s)) s.next (record no_facts { edges = dir ∷ named_in query }) n tt
@@ -356,10 +343,10 @@ module _ (s : State) (h : IsValid s) where
       }) n)
   lenders-stay (Setq dir query told) ok n =
       let t : State = with_told query told s in
-      let same : (k : ℕ) → IsSame s (apply s (Setq dir query told)) k = λ k. directory-changed dir (edited (asking query)) t.entries k (λ e. refl) (λ e. asking-kind query e.body) ∙ directory-told s query told k in
+      let same : (k : ℕ) → IsSame s (apply s (Setq dir query told)) k = λ k. directory-changed dir (edited (asking query)) t.entries k (λ e. refl) (λ e. (keeps-directory (asking query) (role-asking query)) e.body) ∙ directory-told s query told k in
       always same (facts_after (Setq dir query told) s (facts_of s) n).marks.permanent
-  lenders-stay (Unq dir) ok n = always (changed-same dir (edited plain_body) (λ e. refl) (λ e. plain-kind e.body)) (facts_after (Unq dir) s (facts_of s) n).marks.permanent
-  lenders-stay (Mark mark) ok n = always (changed-same mark.dir (edited (marked mark.item mark.kind)) (λ e. refl) (λ e. marked-kind mark.item mark.kind e.body)) (facts_after (Mark mark) s (facts_of s) n).marks.permanent
+  lenders-stay (Unq dir) ok n = always (changed-same dir (edited plain_body) (λ e. refl) (λ e. (keeps-directory plain_body role-plain) e.body)) (facts_after (Unq dir) s (facts_of s) n).marks.permanent
+  lenders-stay (Mark mark) ok n = always (changed-same mark.dir (edited (marked mark.item mark.kind)) (λ e. refl) (λ e. (keeps-directory (marked mark.item mark.kind) (role-marked mark.item mark.kind)) e.body)) (facts_after (Mark mark) s (facts_of s) n).marks.permanent
   lenders-stay (Mv entry dir name) ok n = always (changed-same entry (reseated dir name) (λ e. refl) (λ e. refl)) (facts_after (Mv entry dir name) s (facts_of s) n).marks.permanent
   lenders-stay (Rm item) ok n = always same (facts_after (Rm item) s (facts_of s) n).marks.permanent
     where
@@ -367,7 +354,7 @@ module _ (s : State) (h : IsValid s) where
       leaf = (accepted-parts (is_leaf_at s.entries item) (passed_limit (apply s (Rm item))) ok).0
 
       same : (k : ℕ) → IsSame s (apply s (Rm item)) k
-      same k = directory-mapped (forgetting item) (filter (is_kept item) s.entries) k (forgetting-measures item).kind ∙ kept (item == k) refl
+      same k = directory-mapped (forgetting item) (filter (is_kept item) s.entries) k (keeps-directory (forgetting item) (role-forgetting item)) ∙ kept (item == k) refl
         where
           kept : (b : Bool) → (item == k) ≡ b → is_directory_at (filter (is_kept item) s.entries) k ≡ is_directory_at s.entries k
           kept false other = directory-kept item s.entries k (eqb-false item k other)
@@ -389,7 +376,7 @@ module _ (s : State) (h : IsValid s) where
       (all-weaker (λ k. k ≡ dir → ⊥) (IsSame s (apply s (Rmdir dir))) (facts_of s n).marks.permanent (λ k apart. directory-kept dir s.entries k (λ same. apart (sym same))) (marks-apart s dir parts.2 n))
   lenders-stay Step ok n = elim (next_dirty s.entries) as (λ o. AllByRecursion (IsSame s (option_map_or (λ file. changed_at s file (edited indexed)) o s)) (facts_of s n).marks.permanent) [
     | None ↦ always (λ k. refl) (facts_of s n).marks.permanent
-    | Some file ↦ always (changed-same file (edited indexed) (λ e. refl) (λ e. indexed-kind e.body)) (facts_of s n).marks.permanent
+    | Some file ↦ always (changed-same file (edited indexed) (λ e. refl) (λ e. (keeps-directory indexed role-indexed) e.body)) (facts_of s n).marks.permanent
   ]
   lenders-stay (Cd session dir) ok n = always (λ k. refl) (facts_of s n).marks.permanent
   lenders-stay (Smount dir name space documents told) ok n =

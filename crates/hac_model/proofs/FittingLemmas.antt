@@ -16,6 +16,7 @@ use Rattle.hac_model.specs.declared.states.State.{State}
 use Rattle.hac_model.proofs.ChangeLemmas.{all-both, all-weaker, differ-filter, entry_at-filter, entry_at-none, numbers-filter}
 use Rattle.hac_model.proofs.MapLemmas.{all-map, differ-mapped, mapped, numbers-mapped, place-mapped}
 use Rattle.hac_model.proofs.TreeLemmas.{Lives, all-entries, directory-lives, entry_at-low, place-directory, place-same}
+use Rattle.hac_model.proofs.KindLemmas.{KeepsRole}
 
 pub record IsFitting (s : State) : Type 0 where
   pub numbers : NumbersRise 0 s.entries s.next
@@ -40,11 +41,11 @@ all-passed P p (x ∷ xs) h = elim (p x) as (λ b. p x ≡ b → AllByRecursion 
 
 -- Bodies are edited.
 
-pub mapped-fits : (edit : Body → Body) (s : State) → ((body : Body) → is_directory (edit body) ≡ is_directory body) → ((body : Body) → is_mount (edit body) ≡ is_mount body) → ((body : Body) → is_document (edit body) ≡ is_document body) → ((body : Body) → IsSound body → IsSound (edit body)) → IsFitting s → IsFitting (mapped edit s)
-mapped-fits edit s directories mounts documents sound h = record {
+pub mapped-fits : (edit : Body → Body) (s : State) → KeepsRole edit → ((body : Body) → IsSound body → IsSound (edit body)) → IsFitting s → IsFitting (mapped edit s)
+mapped-fits edit s keeps sound h = record {
   numbers = numbers-mapped edit 0 s.entries s.next h.numbers;
   names = all-map (λ e. IsTrue (is_name e.name)) (edited edit) s.entries h.names;
-  places = all-map (λ e. IsTrue (is_in_place (map (edited edit) s.entries) e)) (edited edit) s.entries (all-weaker (λ e. IsTrue (is_in_place s.entries e)) (λ e. IsTrue (is_in_place (map (edited edit) s.entries) (edited edit e))) s.entries (λ e there. place-mapped edit s.entries e directories mounts documents ∙ there) h.places);
+  places = all-map (λ e. IsTrue (is_in_place (map (edited edit) s.entries) e)) (edited edit) s.entries (all-weaker (λ e. IsTrue (is_in_place s.entries e)) (λ e. IsTrue (is_in_place (map (edited edit) s.entries) (edited edit e))) s.entries (λ e there. place-mapped edit s.entries e keeps ∙ there) h.places);
   differ = differ-mapped edit s.entries h.differ;
   bodies = all-map (λ e. IsSound e.body) (edited edit) s.entries (all-weaker (λ e. IsSound e.body) (λ e. IsSound (edit e.body)) s.entries (λ e there. sound e.body there) h.bodies);
 }

@@ -34,24 +34,13 @@ use Rattle.hac_model.proofs.TermLemmas.{query-askable, all-order}
 use Rattle.hac_model.proofs.ToldLemmas.{told-kept, told-rise, told-sound, told-still}
 use Rattle.hac_model.proofs.TreeLemmas.{entry_at-number}
 use Rattle.hac_model.proofs.ValidLemmas.{found-all}
+use Rattle.hac_model.proofs.KindLemmas.{role-gaining, keeps-directory, keeps-document, keeps-item}
 
 -- Bodies that gain answers.
 
 gaining-bare : (more : List Answer) (body : Body) → bare_body (gaining more body) ≡ bare_body body
 gaining-bare more (Mount space answers) = refl
 gaining-bare more other = refl
-
-gaining-linkable : (more : List Answer) (body : Body) → is_linkable (gaining more body) ≡ is_linkable body
-gaining-linkable more (Mount space answers) = refl
-gaining-linkable more other = refl
-
-gaining-directory : (more : List Answer) (body : Body) → is_directory (gaining more body) ≡ is_directory body
-gaining-directory more (Mount space answers) = refl
-gaining-directory more other = refl
-
-gaining-document : (more : List Answer) (body : Body) → is_document (gaining more body) ≡ is_document body
-gaining-document more (Mount space answers) = refl
-gaining-document more other = refl
 
 gaining-terms : (more : List Answer) (body : Body) → terms_in (gaining more body) ≡ terms_in body
 gaining-terms more (Mount space answers) = refl
@@ -201,10 +190,10 @@ module _ (s : State) (query : Formula ℕ) (told : List (List ℕ)) where
       ])
 
   pub item-told : (n : ℕ) → is_item t n ≡ is_item s n
-  item-told n = tested-told is_linkable gaining-linkable n
+  item-told n = tested-told is_linkable (λ more. keeps-item (gaining more) (role-gaining more)) n
 
   pub made-told : (n : ℕ) → is_made_directory t.entries n ≡ is_made_directory s.entries n
-  made-told n = tested-told is_directory gaining-directory n
+  made-told n = tested-told is_directory (λ more. keeps-directory (gaining more) (role-gaining more)) n
 
   queries-told : IsValid s → AllByRecursion (λ e. AsksWell t e.body) t.entries
   queries-told h =
@@ -215,7 +204,7 @@ module _ (s : State) (query : Formula ℕ) (told : List (List ℕ)) where
   pub documents-told : (m n : ℕ) → is_document_of t m n ≡ is_document_of s m n
   documents-told m n =
       ap (document_by m) (entry_at-gains more s.entries n)
-      ∙ (elim (entry_at s.entries n) as (λ o. document_by m (option_map (gains more) o) ≡ document_by m o) [ None ↦ refl | Some e ↦ ap (λ (b : Bool). b && (e.parent == m)) (gaining-document (more e.number) e.body) ])
+      ∙ (elim (entry_at s.entries n) as (λ o. document_by m (option_map (gains more) o) ≡ document_by m o) [ None ↦ refl | Some e ↦ ap (λ (b : Bool). b && (e.parent == m)) (keeps-document (gaining (more e.number)) (role-gaining (more e.number)) e.body) ])
 
   stay-told : DocumentsStay s t
   stay-told m n there = documents-told m n ∙ there
@@ -290,8 +279,4 @@ module _ (s : State) (query : Formula ℕ) (told : List (List ℕ)) where
             let told = told-at x old was (ap (entry_at s.entries) number ∙ there) is in
             let new : with_answers (answers_to (unanswered query was) told.told) was ≡ answers = ap (λ (more : List Answer). with_answers more was) (sym told.is) ∙ ap answers_in gain in
             subst (λ (xs : List Answer). AreKept xs (terms_of query)) new (told-kept query was told.told told.even)
-        known x there number (File text dirty shown) is gain = absurd cc
-        known x there number Dir is gain = absurd cc
-        known x there number (Symlink target) is gain = absurd cc
-        known x there number (Semantic asked permanent prohibited) is gain = absurd cc
-        known x there number Document is gain = absurd cc
+        known x there number other is gain = absurd cc

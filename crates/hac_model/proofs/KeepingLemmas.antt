@@ -6,7 +6,7 @@ use Rattle.std.specs.List.{AllByRecursion}
 use Rattle.std.proofs.lemmas.Bool.{and_parts, leb-true, le-leb}
 use Rattle.hac_model.specs.Tree.Events.{changed_in, edited}
 use Rattle.hac_model.specs.Tree.Mounts.{is_kept, terms_in, terms_in_use}
-use Rattle.hac_model.specs.Tree.{body_at, entry_at, is_document}
+use Rattle.hac_model.specs.Tree.{entry_at, is_document}
 use Rattle.hac_model.specs.Tree.Valid.{IsAnswer, KeepsWell, has_few, is_document_of}
 use Rattle.hac_model.specs.declared.states.Answer.{Answer}
 use Rattle.hac_model.specs.declared.states.Body.{Body}
@@ -22,10 +22,6 @@ use Rattle.hac_model.proofs.ChangeLemmas.{all-joined, all-weaker, is_kept as is_
 -- documents of a mount stay its documents
 abbrev pub DocumentsStay : State → State → Type 0
 DocumentsStay s t = (m n : ℕ) → is_document_of s m n ≡ true → is_document_of t m n ≡ true
-
--- a mount with few documents has few
-abbrev pub FewStay : State → State → Type 0
-FewStay s t = (m : ℕ) → has_few s.version s.entries m ≡ true → has_few t.version t.entries m ≡ true
 
 -- each term of these has an answer
 abbrev pub AreKept : List Answer → List Term → Type 0
@@ -131,9 +127,3 @@ document-entry s m n there =
       | None ↦ (λ found there. absurd cc)
       | Some e ↦ (λ found there. (e, found, (and_parts (is_document e.body) (e.parent == m) there).0))
     ] refl there
-
--- a test that a document's body passes is passed by its number
-pub document-tests : (s : State) (m n : ℕ) (test : Body → Bool) → ((b : Body) → is_document b ≡ true → test b ≡ false) → is_document_of s m n ≡ true → option_map_or test (body_at s.entries n) false ≡ false
-document-tests s m n test fails there =
-    let found = document-entry s m n there in
-    ap (λ (o : Option Entry). option_map_or test (option_map (λ (e : Entry). e.body) o) false) found.1 ∙ fails found.0.body found.2

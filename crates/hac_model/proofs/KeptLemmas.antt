@@ -33,6 +33,7 @@ use Rattle.hac_model.proofs.KeepingLemmas.{AreKept, DocumentsStay, TermsStay, al
 use Rattle.hac_model.proofs.MapLemmas.{all-map, entry_at-mapped}
 use Rattle.hac_model.proofs.TreeLemmas.{entry_at-number}
 use Rattle.hac_model.proofs.ValidLemmas.{accepted-parts, found-all, free-holder, move-parts, rmdir-parts, setq-parts, smkdir-parts}
+use Rattle.hac_model.proofs.KindLemmas.{KeepsRole, role-asking, role-forgetting, role-indexed, role-marked, role-plain, role-rewritten, keeps-document, keeps-mount}
 
 -- An entry is added.
 
@@ -129,8 +130,7 @@ changed-documents s n change numbers kinds parents m k there =
 -- the edit leaves mounts and documents as they are
 pub record LeavesMounts (edit : Body → Body) : Type 0 where
   pub mounts : (space : List ℕ) (answers : List Answer) → edit (Mount space answers) ≡ Mount space answers
-  pub kinds : (body : Body) → is_mount (edit body) ≡ is_mount body
-  pub documents : (body : Body) → is_document (edit body) ≡ is_document body
+  pub role : KeepsRole edit
 
 -- what is no mount keeps nothing
 no-mount : (t : State) (m : ℕ) (body : Body) → is_mount body ≡ false → KeepsWell t m body
@@ -143,11 +143,11 @@ no-mount t m Document other = tt
 
 edit-keeps : (edit : Body → Body) → LeavesMounts edit → (t : State) (m : ℕ) (body : Body) → KeepsWell t m body → KeepsWell t m (edit body)
 edit-keeps edit leaves t m (Mount space answers) h = subst (KeepsWell t m) (sym (leaves.mounts space answers)) h
-edit-keeps edit leaves t m (File text dirty shown) h = no-mount t m (edit (File text dirty shown)) (leaves.kinds (File text dirty shown))
-edit-keeps edit leaves t m Dir h = no-mount t m (edit Dir) (leaves.kinds Dir)
-edit-keeps edit leaves t m (Symlink target) h = no-mount t m (edit (Symlink target)) (leaves.kinds (Symlink target))
-edit-keeps edit leaves t m (Semantic query permanent prohibited) h = no-mount t m (edit (Semantic query permanent prohibited)) (leaves.kinds (Semantic query permanent prohibited))
-edit-keeps edit leaves t m Document h = no-mount t m (edit Document) (leaves.kinds Document)
+edit-keeps edit leaves t m (File text dirty shown) h = no-mount t m (edit (File text dirty shown)) (keeps-mount edit leaves.role (File text dirty shown))
+edit-keeps edit leaves t m Dir h = no-mount t m (edit Dir) (keeps-mount edit leaves.role Dir)
+edit-keeps edit leaves t m (Symlink target) h = no-mount t m (edit (Symlink target)) (keeps-mount edit leaves.role (Symlink target))
+edit-keeps edit leaves t m (Semantic query permanent prohibited) h = no-mount t m (edit (Semantic query permanent prohibited)) (keeps-mount edit leaves.role (Semantic query permanent prohibited))
+edit-keeps edit leaves t m Document h = no-mount t m (edit Document) (keeps-mount edit leaves.role Document)
 
 -- the terms of all entries after a change, from those of each
 changed-terms : (answers : List Answer) (n : ℕ) (change : Entry → Entry) (es : List Entry) → ((e : Entry) → AreKept answers (terms_in e.body) → AreKept answers (terms_in (change e).body)) → AreKept answers (terms_in_use es) → AreKept answers (terms_in_use (changed_in n change es))
@@ -158,7 +158,7 @@ changed-terms answers n change es stay h =
 edited-keeps : (s : State) (n : ℕ) (edit : Body → Body) → LeavesMounts edit → ((e : Entry) → entry_at s.entries e.number ≡ Some e → (space : List ℕ) (answers : List Answer) → e.body ≡ Mount space answers → (body : Body) → AreKept answers (terms_in body) → AreKept answers (terms_in (edit body))) → IsValid s →
     AllByRecursion (λ e. KeepsWell (changed_at s n (edited edit)) e.number e.body) (changed_at s n (edited edit)).entries
 edited-keeps s n edit leaves known h =
-    changed-keeps s n (edited edit) (λ e. refl) (changed-documents s n (edited edit) (λ e. refl) (λ e. leaves.documents e.body) (λ e is found. refl)) (λ m mount e here. here)
+    changed-keeps s n (edited edit) (λ e. refl) (changed-documents s n (edited edit) (λ e. refl) (λ e. keeps-document edit leaves.role e.body) (λ e is found. refl)) (λ m mount e here. here)
     (λ e found space answers is old. changed-terms answers n (edited edit) s.entries (λ f kept. known e found space answers is f.body kept) old)
     (λ e keeps. edit-keeps edit leaves (changed_at s n (edited edit)) e.number e.body keeps) h
 
@@ -169,102 +169,40 @@ same-terms edit same answers body kept = subst (AreKept answers) (sym (same body
 -- The edits of events.
 
 rewritten-leaves : (text : List ℕ) → LeavesMounts (rewritten text)
-rewritten-leaves text = record { mounts = λ space answers. refl; kinds = kinds; documents = documents }
-  where
-    kinds : (body : Body) → is_mount (rewritten text body) ≡ is_mount body
-    kinds (File old dirty shown) = refl
-    kinds other = refl
-
-    documents : (body : Body) → is_document (rewritten text body) ≡ is_document body
-    documents (File old dirty shown) = refl
-    documents other = refl
+rewritten-leaves text = record { mounts = λ space answers. refl; role = role-rewritten text }
 
 rewritten-terms : (text : List ℕ) (body : Body) → terms_in (rewritten text body) ≡ terms_in body
 rewritten-terms text (File old dirty shown) = refl
 rewritten-terms text other = refl
 
-indexed-leaves : LeavesMounts (indexed)
-indexed-leaves = record { mounts = λ space answers. refl; kinds = kinds; documents = documents }
-  where
-    kinds : (body : Body) → is_mount (indexed body) ≡ is_mount body
-    kinds (File old dirty shown) = refl
-    kinds other = refl
-
-    documents : (body : Body) → is_document (indexed body) ≡ is_document body
-    documents (File old dirty shown) = refl
-    documents other = refl
+indexed-leaves : LeavesMounts indexed
+indexed-leaves = record { mounts = λ space answers. refl; role = role-indexed }
 
 indexed-terms : (body : Body) → terms_in (indexed body) ≡ terms_in body
 indexed-terms (File old dirty shown) = refl
 indexed-terms other = refl
 
 asking-leaves : (query : Formula ℕ) → LeavesMounts (asking query)
-asking-leaves query = record { mounts = λ space answers. refl; kinds = kinds; documents = documents }
-  where
-    kinds : (body : Body) → is_mount (asking query body) ≡ is_mount body
-    kinds Dir = refl
-    kinds (Semantic old permanent prohibited) = refl
-    kinds other = refl
+asking-leaves query = record { mounts = λ space answers. refl; role = role-asking query }
 
-    documents : (body : Body) → is_document (asking query body) ≡ is_document body
-    documents Dir = refl
-    documents (Semantic old permanent prohibited) = refl
-    documents other = refl
-
-plain-leaves : LeavesMounts (plain_body)
-plain-leaves = record { mounts = λ space answers. refl; kinds = kinds; documents = documents }
-  where
-    kinds : (body : Body) → is_mount (plain_body body) ≡ is_mount body
-    kinds (Semantic old permanent prohibited) = refl
-    kinds other = refl
-
-    documents : (body : Body) → is_document (plain_body body) ≡ is_document body
-    documents (Semantic old permanent prohibited) = refl
-    documents other = refl
+plain-leaves : LeavesMounts plain_body
+plain-leaves = record { mounts = λ space answers. refl; role = role-plain }
 
 forgetting-leaves : (n : ℕ) → LeavesMounts (forgetting n)
-forgetting-leaves n = record { mounts = λ space answers. refl; kinds = kinds; documents = documents }
-  where
-    kinds : (body : Body) → is_mount (forgetting n body) ≡ is_mount body
-    kinds (Semantic old permanent prohibited) = refl
-    kinds other = refl
-
-    documents : (body : Body) → is_document (forgetting n body) ≡ is_document body
-    documents (Semantic old permanent prohibited) = refl
-    documents other = refl
+forgetting-leaves n = record { mounts = λ space answers. refl; role = role-forgetting n }
 
 forgetting-terms : (n : ℕ) (body : Body) → terms_in (forgetting n body) ≡ terms_in body
 forgetting-terms n (Semantic old permanent prohibited) = refl
 forgetting-terms n other = refl
 
 marked-leaves : (n : ℕ) (kind : Kind) → LeavesMounts (marked n kind)
-marked-leaves n kind = record { mounts = mounts kind; kinds = kinds kind; documents = documents kind }
+marked-leaves n kind = record { mounts = mounts kind; role = role-marked n kind }
   where
     mounts : (kind : Kind) (space : List ℕ) (answers : List Answer) → marked n kind (Mount space answers) ≡ Mount space answers
     mounts Transient space answers = refl
     mounts Permanent space answers = refl
     mounts Prohibited space answers = refl
     mounts Unlinked space answers = refl
-
-    kinds : (kind : Kind) (body : Body) → is_mount (marked n kind body) ≡ is_mount body
-    kinds Transient (Semantic old permanent prohibited) = refl
-    kinds Transient other = refl
-    kinds Permanent (Semantic old permanent prohibited) = refl
-    kinds Permanent other = refl
-    kinds Prohibited (Semantic old permanent prohibited) = refl
-    kinds Prohibited other = refl
-    kinds Unlinked (Semantic old permanent prohibited) = refl
-    kinds Unlinked other = refl
-
-    documents : (kind : Kind) (body : Body) → is_document (marked n kind body) ≡ is_document body
-    documents Transient (Semantic old permanent prohibited) = refl
-    documents Transient other = refl
-    documents Permanent (Semantic old permanent prohibited) = refl
-    documents Permanent other = refl
-    documents Prohibited (Semantic old permanent prohibited) = refl
-    documents Prohibited other = refl
-    documents Unlinked (Semantic old permanent prohibited) = refl
-    documents Unlinked other = refl
 
 marked-terms : (n : ℕ) (kind : Kind) (body : Body) → terms_in (marked n kind body) ≡ terms_in body
 marked-terms n Transient (Semantic old permanent prohibited) = refl
@@ -323,7 +261,7 @@ forgotten-keeps s n h =
     documents : DocumentsStay s (forgotten s n)
     documents m k there =
         ap (document_by m) (entry_at-mapped (forgetting n) s.entries k)
-        ∙ (elim (entry_at s.entries k) as (λ o. document_by m (option_map (edited (forgetting n)) o) ≡ document_by m o) [ None ↦ refl | Some e ↦ ap (λ (b : Bool). b && (e.parent == m)) ((forgetting-leaves n).documents e.body) ])
+        ∙ (elim (entry_at s.entries k) as (λ o. document_by m (option_map (edited (forgetting n)) o) ≡ document_by m o) [ None ↦ refl | Some e ↦ ap (λ (b : Bool). b && (e.parent == m)) (keeps-document (forgetting n) (role-forgetting n) e.body) ])
         ∙ there
 
     few : (m : ℕ) → has_few s.version s.entries m ≡ true → has_few (forgotten s n).version (forgotten s n).entries m ≡ true
@@ -344,12 +282,9 @@ leaf-document s n h = elim (entry_at s.entries n) as (λ o. option_map_or is_lea
 ] h
   where
     body : (b : Body) → is_leaf b ≡ true → is_document b ≡ false
-    body Document h = absurd cc
     body (File text dirty shown) h = refl
     body (Symlink target) h = refl
-    body Dir h = absurd cc
-    body (Semantic query permanent prohibited) h = absurd cc
-    body (Mount space answers) h = absurd cc
+    body other h = absurd cc
 
 -- nor is a directory
 made-document : (s : State) (n : ℕ) → is_made_directory s.entries n ≡ true → is_document_at s.entries n ≡ false
@@ -359,12 +294,10 @@ made-document s n h = elim (entry_at s.entries n) as (λ o. option_map_or is_dir
 ] h
   where
     body : (b : Body) → is_directory b ≡ true → is_document b ≡ false
-    body Document h = absurd cc
-    body (File text dirty shown) h = absurd cc
-    body (Symlink target) h = absurd cc
     body Dir h = refl
     body (Semantic query permanent prohibited) h = refl
     body (Mount space answers) h = refl
+    body other h = absurd cc
 
 -- what stands at a free place's directory is no mount
 free-plain : (s : State) (dir : ℕ) (name : List ℕ) → is_free s dir name ≡ true → is_mount_at s.entries dir ≡ false

@@ -23,7 +23,8 @@ use Rattle.hac_model.specs.Tree.Mounts.{terms_to_ask}
 use Rattle.hac_model.specs.Script.SpaceNames.{is_space_name}
 use Rattle.hac_model.specs.declared.events.Event.TheVariants.{Smount, Ssync, Sumount}
 use Rattle.hac_model.proofs.MountLayoutLemmas.{mounted-layout, synced-layout, unmounted-layout}
-use Rattle.hac_model.proofs.ValidLemmas.{accepted-parts, added-layout, asking-places, asking-sound, bare-all, edited-layout, forgetting-measures, forgetting-sound, indexed-places, indexed-sound, leaf-bare, marked-places, marked-sound, move-parts, none_from, passed-forgotten, plain-places, plain-sound, removed-layout, reseated-layout, rewritten-places, rewritten-sound, rmdir-parts, smkdir-parts}
+use Rattle.hac_model.proofs.ValidLemmas.{accepted-parts, added-layout, asking-sound, bare-all, edited-layout, forgetting-measures, forgetting-sound, indexed-sound, leaf-bare, marked-sound, move-parts, none_from, passed-forgotten, plain-sound, removed-layout, reseated-layout, rewritten-sound, rmdir-parts, smkdir-parts}
+use Rattle.hac_model.proofs.KindLemmas.{role-asking, role-indexed, role-marked, role-plain, role-rewritten}
 
 -- what may be mounted
 pub smount-parts : (s : State) (dir : ℕ) (name space : List ℕ) (documents told : List (List ℕ)) → is_possible s (Smount dir name space documents told) ≡ true →
@@ -68,7 +69,7 @@ apply-layout s (NewFile dir name text) h ok =
 apply-layout s (Rewrite file text) h ok =
     let parts = accepted-parts (is_file_at s.entries file && is_text text) (passed_limit (changed_at s file (edited (rewritten text)))) ok in
     let fits = and_parts (is_file_at s.entries file) (is_text text) parts.0 in
-    edited-layout s file (rewritten text) (rewritten-places text) (rewritten-sound text fits.1) h parts.1
+    edited-layout s file (rewritten text) (role-rewritten text) (rewritten-sound text fits.1) h parts.1
 apply-layout s (Ln dir name target) h ok =
     let parts = accepted-parts (is_free s dir name && is_target target) (passed_limit (added s dir name (Symlink target))) ok in
     let fits = and_parts (is_free s dir name) (is_target target) parts.0 in
@@ -78,13 +79,13 @@ apply-layout s (Smkdir dir name query told) h ok =
     added-layout (with_told query told s) dir name (Semantic query [] []) (layout-told s query told h) (free-told s query told dir name ∙ (smkdir-parts s dir name query told parts.0).0) tt refl parts.1
 apply-layout s (Setq dir query told) h ok =
     let parts = accepted-parts (is_possible s (Setq dir query told)) (passed_limit (changed_at (with_told query told s) dir (edited (asking query)))) ok in
-    edited-layout (with_told query told s) dir (asking query) (asking-places query) (asking-sound query) (layout-told s query told h) parts.1
+    edited-layout (with_told query told s) dir (asking query) (role-asking query) (asking-sound query) (layout-told s query told h) parts.1
 apply-layout s (Unq dir) h ok =
     let parts = accepted-parts (is_semantic s dir) (passed_limit (changed_at s dir (edited plain_body))) ok in
-    edited-layout s dir plain_body plain-places plain-sound h parts.1
+    edited-layout s dir plain_body role-plain plain-sound h parts.1
 apply-layout s (Mark mark) h ok =
     let parts = accepted-parts (is_possible s (Mark mark)) (passed_limit (changed_at s mark.dir (edited (marked mark.item mark.kind)))) ok in
-    edited-layout s mark.dir (marked mark.item mark.kind) (marked-places mark.item mark.kind) (marked-sound mark.item mark.kind) h parts.1
+    edited-layout s mark.dir (marked mark.item mark.kind) (role-marked mark.item mark.kind) (marked-sound mark.item mark.kind) h parts.1
 apply-layout s (Mv entry dir name) h ok =
     let parts = accepted-parts (is_possible s (Mv entry dir name)) (passed_limit (changed_at s entry (reseated dir name))) ok in
     let fits = move-parts s entry dir name parts.0 in
@@ -98,7 +99,7 @@ apply-layout s (Rmdir dir) h ok =
 apply-layout s Step h ok =
     elim (next_dirty s.entries) as (λ o. (is_some o && is_none (passed_limit (option_map_or (λ file. changed_at s file (edited indexed)) o s))) ≡ true → IsLayout (option_map_or (λ file. changed_at s file (edited indexed)) o s)) [
       | None ↦ (λ ok. h)
-      | Some file ↦ (λ ok. edited-layout s file indexed indexed-places indexed-sound h (none_from (passed_limit (changed_at s file (edited indexed))) ok))
+      | Some file ↦ (λ ok. edited-layout s file indexed role-indexed indexed-sound h (none_from (passed_limit (changed_at s file (edited indexed))) ok))
     ] ok
 apply-layout s (Cd session dir) h ok = record {
   numbers = h.numbers;

@@ -1,12 +1,12 @@
 -- The payload of each event that can happen is shorter than 2 ^ 32 bytes, so that a record's four bytes hold its length.
 use Rattle.std.proofs.Common.{◌≡◌, ℕ, zero, suc, ◌+◌, ◌*◌, ◌<◌, ◌≤◌, ◌^◌, Bool, true, false, cond, List, [], ◌∷◌, ◌++◌, length, refl, sym, ◌∙◌, ap, nat_lt, arith, length-append}
-use Rattle.std.specs.Prelude.{◌==◌, ◌&&◌, not, nat_le, sum_by, drop, take, if◌then◌else◌, Option, Some, None, IsTrue}
+use Rattle.std.specs.Prelude.{◌==◌, ◌&&◌, not, nat_le, sum_by, map, drop, take, if◌then◌else◌, Option, Some, None, IsTrue}
 use Rattle.std.specs.Int.{w8, w16, w32, to_le_bytes}
 use Rattle.std.specs.List.{AllByRecursion, list_all}
 use Rattle.std.specs.Option.{option_map, option_map_or}
-use Rattle.std.proofs.lemmas.Bool.{and_parts, eqb-true, leb-true}
+use Rattle.std.proofs.lemmas.Bool.{and_parts, eq-eqb, eqb-true, leb-true, ne_eqb}
 use Rattle.std.proofs.lemmas.Bool.Decides.{nat_tests}
-use Rattle.std.proofs.lemmas.List.{take-append-drop}
+use Rattle.std.proofs.lemmas.List.{nil_from_length, take-append-drop}
 use Rattle.std.proofs.lemmas.List.Sums.{sum_by-append, sum_by-cons}
 use Rattle.hac_model.specs.Payload.Fields.{checked, count, Field, items_fit, items_text, num, ◌&◌}
 use Rattle.hac_model.specs.Payload.Payloads.{docs_field, event_field, event_text, is_spellable, mark_field, name_field, nums, rises, space_field, target_field, text_field, told_field}
@@ -16,7 +16,8 @@ use Rattle.hac_model.specs.Query.Formula as query
 use Rattle.hac_model.specs.Query.Queries.{are_terms, is_query, letter_count, not_count, sum_leaves, term_count, terms_of}
 use Rattle.hac_model.specs.Script.PathWords.{is_path_word}
 use Rattle.hac_model.specs.Script.SpaceNames.{is_space_name}
-use Rattle.hac_model.specs.Tree.Asking.{are_all_told, asked_by, unanswered}
+use Rattle.hac_model.specs.Query.Terms.{is_term_before}
+use Rattle.hac_model.specs.Tree.Asking.{are_all_told, asked_by, gained, gaining, put_answer, unanswered, with_answers, with_told}
 use Rattle.hac_model.specs.Tree.Depends.{named_in}
 use Rattle.hac_model.specs.Tree.Events.{accepted, apply, are_directories, is_possible, may_ask}
 use Rattle.hac_model.specs.Tree.Links.{answers_at, parent_of}
@@ -36,7 +37,7 @@ use Rattle.hac_model.specs.declared.marks.Kind.{Kind}
 use Rattle.hac_model.specs.declared.marks.Kind.TheVariants.{Transient, Permanent, Prohibited, Unlinked}
 use Rattle.hac_model.specs.declared.states.Answer.{Answer}
 use Rattle.hac_model.specs.declared.states.Body.{Body}
-use Rattle.hac_model.specs.declared.states.Body.TheVariants.{File, Dir, Symlink, Semantic, Mount, Document}
+use Rattle.hac_model.specs.declared.states.Body.TheVariants.{File, Dir, Mount, Document}
 use Rattle.hac_model.specs.declared.states.Entry.{Entry}
 use Rattle.hac_model.specs.declared.states.State.{State}
 use Rattle.hac_model.specs.declared.terms.Term.{Term}
@@ -205,11 +206,7 @@ measured-keeping f space answers same (e ∷ es) mount there =
   where
     own : (body : Body) → is_mount body ≡ true → f (keeping answers body) ≡ f (Mount space answers)
     own (Mount other kept) is = same other
-    own (File text dirty shown) is = absurd cc
-    own Dir is = absurd cc
-    own (Symlink target) is = absurd cc
-    own (Semantic query permanent prohibited) is = absurd cc
-    own Document is = absurd cc
+    own other is = absurd cc
 
 redocumented-mount : (s : State) (mount : ℕ) (documents : List (List ℕ)) → IsLayout s → is_mount_at s.entries mount ≡ true → is_mount_at (redocumented s mount documents).entries mount ≡ true
 redocumented-mount s mount documents h there =
@@ -257,71 +254,100 @@ item-is s mount n is = by (entry_at s.entries n) refl (and_parts (is_document_at
     item : (body : Body) → is_document body ≡ true → is_linkable body ≡ true
     item Document is = refl
     item (File text dirty shown) is = refl
-    item Dir is = absurd cc
-    item (Symlink target) is = absurd cc
-    item (Semantic query permanent prohibited) is = absurd cc
-    item (Mount space answers) is = absurd cc
+    item other is = absurd cc
 
     by : (o : Option Entry) → entry_at s.entries n ≡ o → option_map_or is_document (option_map (λ (e : Entry). e.body) o) false ≡ true → IsItem s.entries n
     by None found is = absurd cc
     by (Some e) found is = (e, found, item e.body is)
 
--- so a mount is told of no more documents than there may be files and documents
-told-few : (s : State) (mount : ℕ) (ns : List ℕ) → IsLayout s → is_told s mount ns ≡ true → length ns ≤ 65536
-told-few s mount ns h is =
-    let parts = and_parts (do_rise_from 0 ns) (list_all (is_document_of s mount) ns) is in
-    let items : item_count s.entries ≤ ITEMS_LIMIT = grind (arith, nat_tests, (limits-within s h.limits).items) in
-    let all = all-weaker (λ n. is_document_of s mount n ≡ true) (IsItem s.entries) ns (λ n is. item-is s mount n is) (all-tested (is_document_of s mount) ns parts.1) in
-    omega (arith, items, items-few 0 s.entries s.next 0 ns h.numbers (rise-told 0 ns parts.0) all)
+-- what answers name, together
+abbrev kept_size : List Answer → ℕ
+kept_size answers = sum_by (λ (answer : Answer). length answer.documents) answers
 
-lists-few : (s : State) (mount : ℕ) (told : List (List ℕ)) → IsLayout s → list_all (is_told s mount) told ≡ true → told_size told ≤ 65536 * length told
-lists-few s mount [] h are = omega arith
-lists-few s mount (ns ∷ told) h are =
-    let parts = and_parts (is_told s mount ns) (list_all (is_told s mount) told) are in
-    omega (arith, told-few s mount ns h parts.0, lists-few s mount told h parts.1, sum_by-cons (λ (ns : List ℕ). length ns) ns told)
+-- one answer more is kept beside the others
+put-size : (new : Answer) (answers : List Answer)
+    → (length (put_answer new answers) ≡ suc (length answers)) × (kept_size (put_answer new answers) ≡ length new.documents + kept_size answers)
+put-size new [] = (refl, sum_by-cons (λ (answer : Answer). length answer.documents) new [])
+put-size new (answer ∷ answers) =
+    let rest = put-size new answers in
+    elim (is_term_before new.term answer.term) as (λ b. (length (if b then new ∷ answer ∷ answers else answer ∷ put_answer new answers) ≡ suc (suc (length answers)))
+    × (kept_size (if b then new ∷ answer ∷ answers else answer ∷ put_answer new answers) ≡ length new.documents + kept_size (answer ∷ answers))) [
+      | true ↦ (refl, sum_by-cons (λ (answer : Answer). length answer.documents) new (answer ∷ answers))
+      | false ↦ (
+        ap suc rest.0,
+        omega (arith, rest.1, sum_by-cons (λ (answer : Answer). length answer.documents) answer (put_answer new answers), sum_by-cons (λ (answer : Answer). length answer.documents) answer answers),
+      )
+    ]
 
--- a mount has to be asked for no more terms than a query may have
-asked-few : (s : State) (query : Formula ℕ) (e : Entry) → term_count query ≤ TERMS_LIMIT → length (asked_by (answers_at s) query e) ≤ 64 * one_if is_mount e.body
-asked-few s query e terms = few (is_mount e.body)
-  where
-    few : (b : Bool) → length (if b then unanswered query (answers_at s e.number) else []) ≤ 64 * cond {A = ℕ} b 1 0
-    few true =
-        omega (arith, filter-few (λ term. not (is_kept (answers_at s e.number) term)) (terms_in_order (terms_of query)), order-few (terms_of query), terms-few query, terms)
-    few false = omega arith
+with-size : (more answers : List Answer)
+    → (length (with_answers more answers) ≡ length more + length answers) × (kept_size (with_answers more answers) ≡ kept_size more + kept_size answers)
+with-size [] answers = (omega arith, omega arith)
+with-size (new ∷ more) answers =
+    let rest = with-size more answers in
+    let put = put-size new (with_answers more answers) in
+    (omega (arith, put.0, rest.0), omega (arith, put.1, rest.1, sum_by-cons (λ (answer : Answer). length answer.documents) new more))
 
--- what was told has so many lists, and so many numbers in them
-all-told-few : (s : State) (query : Formula ℕ) (es : List Entry) (told : List (List ℕ)) → IsLayout s → term_count query ≤ TERMS_LIMIT → are_all_told s query told es ≡ true
-    → (length told ≤ 64 * mount_count es) × (told_size told ≤ 65536 * length told)
-all-told-few s query [] [] h terms all = (omega arith, omega arith)
-all-told-few s query [] (ns ∷ told) h terms all = let none : length (ns ∷ told) ≡ 0 = eqb-true (length (ns ∷ told)) 0 all in absurd (omega (arith, none))
-all-told-few s query (e ∷ es) told h terms all =
-    let k = length (asked_by (answers_at s) query e) in
+-- answers to terms take no more lists than there are terms
+answers-front : (terms : List Term) (told : List (List ℕ)) → answers_to terms told ≡ answers_to terms (take (length terms) told)
+answers-front [] told = refl
+answers-front (term ∷ terms) [] = refl
+answers-front (term ∷ terms) (ns ∷ told) = ap (λ (answers : List Answer). record { term = term; documents = ns } ∷ answers) (answers-front terms told)
+
+-- a mount keeps what it gains; nothing else is told anything
+gaining-size : (more : List Answer) (body : Body) → (is_mount body ≡ false → (length more ≡ 0) × (kept_size more ≡ 0))
+    → (kept_size more ≤ documents_kept (gaining more body)) × (length more ≤ answers_kept (gaining more body))
+gaining-size more (Mount space answers) none = let sizes = with-size more answers in (omega (arith, sizes.1), omega (arith, sizes.0))
+gaining-size more other none = let no = none refl in (omega (arith, no.1), omega (arith, no.0))
+
+asked-none : (kept : ℕ → List Answer) (query : Formula ℕ) (e : Entry) → is_mount e.body ≡ false → asked_by kept query e ≡ []
+asked-none kept query e is = ap (λ (b : Bool). if b then unanswered query (kept e.number) else []) is
+
+-- what all mounts were told they keep
+all-told-kept : (s : State) (query : Formula ℕ) (gains : ℕ → List Answer) (above : ℕ) (es : List Entry) (next : ℕ) (told : List (List ℕ)) → NumbersRise above es next
+    → ((n : ℕ) → above < n → gains n ≡ gained (answers_at s) query told es n) → are_all_told s query told es ≡ true
+    → (told_size told ≤ measured documents_kept (map (λ (e : Entry). edited (gaining (gains e.number)) e) es))
+    × (length told ≤ measured answers_kept (map (λ (e : Entry). edited (gaining (gains e.number)) e) es))
+all-told-kept s query gains above [] next [] rise same all = (omega arith, omega arith)
+all-told-kept s query gains above [] next (ns ∷ told) rise same all = let none : length (ns ∷ told) ≡ 0 = eqb-true (length (ns ∷ told)) 0 all in absurd (omega (arith, none))
+all-told-kept s query gains above (e ∷ es) next told rise same all =
+    let asked = asked_by (answers_at s) query e in
+    let k = length asked in
     let front = take k told in
     let behind = drop k told in
-    let parts = and_parts (are_told s e.number (asked_by (answers_at s) query e) front) (are_all_told s query behind es) all in
+    let parts = and_parts (are_told s e.number asked front) (are_all_told s query behind es) all in
     let own = and_parts (length front == k) (list_all (is_told s e.number) front) parts.0 in
     let even : length front ≡ k = eqb-true (length front) k own.0 in
+    let here : gains e.number ≡ answers_to asked front =
+    same e.number rise.0 ∙ ap (λ (b : Bool). if b then answers_to asked told else gained (answers_at s) query behind es e.number) (eq-eqb e.number e.number refl) ∙ answers-front asked told in
+    let on : (n : ℕ) → e.number < n → gains n ≡ gained (answers_at s) query behind es n =
+    λ n less. same n (omega (arith, less, rise.0))
+    ∙ ap (λ (b : Bool). if b then answers_to asked told else gained (answers_at s) query behind es n) (ne_eqb e.number n (λ is. omega (arith, less, is))) in
+    let rest = all-told-kept s query gains e.number es next behind rise.1 on parts.1 in
+    let answers = answers-size asked front even in
+    let length_is : length (gains e.number) ≡ length front = ap length here ∙ answers.0 in
+    let size_is : kept_size (gains e.number) ≡ told_size front = ap kept_size here ∙ answers.1 in
+    let mount = gaining-size (gains e.number) e.body (λ no.
+    let none : k ≡ 0 = ap length (asked-none (answers_at s) query e no) in
+    let empty : front ≡ [] = nil_from_length front (omega (arith, even, none)) in
+    (omega (arith, length_is, even, none), size_is ∙ ap told_size empty)) in
+    let new = edited (gaining (gains e.number)) e in
+    let more = map (λ (e : Entry). edited (gaining (gains e.number)) e) es in
     let split = take-append-drop k told in
     let both : length front + length behind ≡ length told = sym (length-append front behind) ∙ ap (λ (ns : List (List ℕ)). length ns) split in
-    let sizes : told_size front + told_size behind ≡ told_size told = sym (sum_by-append (λ (ns : List ℕ). length ns) front behind) ∙ ap told_size split in
-    let rest = all-told-few s query es behind h terms parts.1 in (
-      omega (arith, even, both, rest.0, asked-few s query e terms, measured-cons (one_if is_mount) e es),
-      omega (arith, both, sizes, rest.1, lists-few s e.number front h own.1),
+    let sizes : told_size front + told_size behind ≡ told_size told = sym (sum_by-append (λ (ns : List ℕ). length ns) front behind) ∙ ap told_size split in (
+      omega (arith, sizes, rest.0, mount.0, size_is, measured-cons documents_kept new more),
+      omega (arith, both, rest.1, mount.1, length_is, measured-cons answers_kept new more),
     )
 
-query-terms : (s : State) (query : Formula ℕ) → may_ask s query ≡ true → term_count query ≤ TERMS_LIMIT
-query-terms s q may =
-    let asked = and_parts (is_query q) (are_directories s (named_in q)) may in
-    let nested = and_parts (are_terms q && nat_le (term_count q) TERMS_LIMIT && nat_le (letter_count q) QUERY_LIMIT) (nat_le (not_count q) NESTING_LIMIT) asked.0 in
-    let sized = and_parts (are_terms q && nat_le (term_count q) TERMS_LIMIT) (nat_le (letter_count q) QUERY_LIMIT) nested.0 in
-    leb-true (term_count q) TERMS_LIMIT (and_parts (are_terms q) (nat_le (term_count q) TERMS_LIMIT) sized.0).1
-
-told-asked : (s : State) (query : Formula ℕ) (told : List (List ℕ)) → IsLayout s → may_ask s query ≡ true → are_all_told s query told s.entries ≡ true
-    → length ((told_field s.version).text told) ≤ 2147500036
-told-asked s query told h may all =
-    let few = all-told-few s query s.entries told h (query-terms s query may) all in
-    let mounts : mount_count s.entries ≤ MOUNTS_LIMIT = grind (arith, nat_tests, most-mounts s (limits-within s h.limits)) in
-    omega (arith, told-length s.version told, few.0, few.1, mounts)
+told-asked : (s : State) (query : Formula ℕ) (told : List (List ℕ)) → IsLayout s → are_all_told s query told s.entries ≡ true → are_answers_few (with_told query told s).entries ≡ true
+    → length ((told_field s.version).text told) ≤ 33816580
+told-asked s query told h all few =
+    let es = (with_told query told s).entries in
+    let kept = all-told-kept s query (λ n. gained (answers_at s) query told s.entries n) 0 s.entries s.next told h.numbers (λ n above. refl) all in
+    let parts = and_parts (nat_le (measured documents_kept es) ANSWERS_LIMIT) (nat_le (measured answers_kept es) PAIRS_LIMIT) few in
+    let most : measured documents_kept es ≤ ANSWERS_LIMIT = leb-true (measured documents_kept es) ANSWERS_LIMIT parts.0 in
+    let pairs : measured answers_kept es ≤ PAIRS_LIMIT = leb-true (measured answers_kept es) PAIRS_LIMIT parts.1 in
+    omega (arith, told-length s.version told, kept.0, kept.1, most, pairs)
 
 -- ---- events
 
@@ -354,7 +380,7 @@ module _ (s : State) (h : IsValid s) where
   abbrev version : Version
   version = s.version
 
-  part-length : (e : Event) → is_possible s e ≡ true → (event_field version).fits e ≡ true → length ((event_field version).text e) ≤ 2147504100
+  part-length : (e : Event) → is_possible s e ≡ true → (event_field version).fits e ≡ true → length ((event_field version).text e) ≤ 50594100
   part-length (Mkdir dir name) is fits =
       let parts = and_parts ((num version).fits dir) (name_field.fits name) fits in
       omega (arith, joined-length (num version) name_field dir name 8 256 (num-length version dir) (name-length name parts.1))
@@ -383,15 +409,15 @@ module _ (s : State) (h : IsValid s) where
       let parts = and_parts ((num version).fits dir) (name_field.fits name && ((query_field version).fits query && (told_field version).fits told)) fits in
       let more = and_parts (name_field.fits name) ((query_field version).fits query && (told_field version).fits told) parts.1 in
       let last = and_parts ((query_field version).fits query) ((told_field version).fits told) more.1 in
-      let asked = joined-length (query_field version) (told_field version) query told 3712 2147500036 (query-length version query last.0) (told-asked s query told h.layout asks.1 asks.2) in
-      let rest = joined-length name_field (query_field version & told_field version) name (query, told) 256 2147503748 (name-length name more.0) asked in
-      omega (arith, joined-length (num version) (name_field & query_field version & told_field version) dir (name, (query, told)) 8 2147504004 (num-length version dir) rest)
+      let asked = joined-length (query_field version) (told_field version) query told 3712 33816580 (query-length version query last.0) (told-asked s query told h.layout asks.2 asks.3) in
+      let rest = joined-length name_field (query_field version & told_field version) name (query, told) 256 33820292 (name-length name more.0) asked in
+      omega (arith, joined-length (num version) (name_field & query_field version & told_field version) dir (name, (query, told)) 8 33820548 (num-length version dir) rest)
   part-length (Setq dir query told) is fits =
       let asks = setq-parts s dir query told is in
       let parts = and_parts ((num version).fits dir) ((query_field version).fits query && (told_field version).fits told) fits in
       let last = and_parts ((query_field version).fits query) ((told_field version).fits told) parts.1 in
-      let asked = joined-length (query_field version) (told_field version) query told 3712 2147500036 (query-length version query last.0) (told-asked s query told h.layout asks.1 asks.3) in
-      omega (arith, joined-length (num version) (query_field version & told_field version) dir (query, told) 8 2147503748 (num-length version dir) asked)
+      let asked = joined-length (query_field version) (told_field version) query told 3712 33816580 (query-length version query last.0) (told-asked s query told h.layout asks.3 asks.5) in
+      omega (arith, joined-length (num version) (query_field version & told_field version) dir (query, told) 8 33820292 (num-length version dir) asked)
   part-length (Unq dir) is fits = omega (arith, num-length version dir)
   part-length (Mark set) is fits =
       let rest = joined-length (num version) mark_field set.item set.kind 8 1 (num-length version set.item) (mark-length set.kind) in
@@ -431,9 +457,13 @@ module _ (s : State) (h : IsValid s) where
   part-length Step is fits = omega arith
   part-length (Cd session dir) is fits = omega arith
 
--- the payload of an event that can happen is short enough for a record
-pub text-short : (s : State) (e : Event) → IsValid s → IsTrue (is_stored e) → IsTrue (accepted s e) → length (event_text s.version e) < 2 ^ 32
+-- the payload of an event that can happen is short enough for a parcel
+pub text-fits : (s : State) (e : Event) → IsValid s → IsTrue (is_stored e) → IsTrue (accepted s e) → length (event_text s.version e) ≤ 67108864
 unfolding event_text is_spellable
-text-short s e h kept is =
+text-fits s e h kept is =
     let parts = accepted-parts (is_possible s e) (passed_limit (apply s e)) is in
     omega (arith, part-length s h e parts.0 (accepted-spelled s e h kept is))
+
+-- so it is for a record
+pub text-short : (s : State) (e : Event) → IsValid s → IsTrue (is_stored e) → IsTrue (accepted s e) → length (event_text s.version e) < 2 ^ 32
+text-short s e h kept is = omega (arith, text-fits s e h kept is)

@@ -1,3 +1,5 @@
+pub mod BoolLemmas
+pub mod KindLemmas
 pub mod TreeLemmas
 pub mod ChangeLemmas
 pub mod Walks
@@ -42,6 +44,8 @@ pub mod SessionLemmas
 pub mod SpellableLemmas
 pub mod SpelledLemmas
 pub mod PlayLemmas
+pub mod HistoryLemmas
+mod ReplayLemmas
 pub mod PlainLemmas
 pub mod ListedLemmas
 pub mod WholeLemmas
@@ -69,3 +73,4 @@ pub mod SortedLemmas
 pub mod TermOrderLemmas
 pub mod NameOrderLemmas
 pub mod RangeLemmas
+pub mod HereLemmas

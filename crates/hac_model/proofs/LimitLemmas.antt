@@ -1,7 +1,7 @@
 -- A state that exceeds no limit is within each of them.
 use Rattle.std.proofs.Common.{◌≡◌, ℕ, ◌≤◌, arith, Bool, true, false, cond, refl, ap, ◌∙◌, List, [], ◌∷◌, ◌++◌}
 use Rattle.std.specs.Prelude.{◌&&◌, nat_lt, Option, Some, None, is_none}
-use Rattle.hac_model.specs.Tree.Limits.{answer_limits, are_paths_short, counts, directory_count, first_passed, item_count, layout_limits, long_paths, mount_count, passed_limit, semantic_count, symlink_count, text_size}
+use Rattle.hac_model.specs.Tree.Limits.{are_paths_short, directory_count, first_passed, item_count, long_paths, mount_count, passed_limit, semantic_count, symlink_count, text_size}
 use Rattle.hac_model.specs.declared.limits.Limit.{Limit}
 use Rattle.hac_model.specs.declared.limits.TheConstants.{TEXTS_LIMIT, DIRS_LIMIT, SEMANTICS_LIMIT, MOUNTS_LIMIT, SYMLINKS_LIMIT, ITEMS_LIMIT, NUMBERS_LIMIT}
 use Rattle.hac_model.specs.declared.limits.LimitWord.{LimitWord}
@@ -106,15 +106,6 @@ module _ (s : State) (within : IsWithinLimits s) where
       most : (version : Version) → nat_lt (numbers_limit version) s.next ≡ false → nat_lt NUMBERS_LIMIT s.next ≡ false
       most One h = smaller_limit 4294967295 NUMBERS_LIMIT s.next (omega arith) h
       most Two h = h
-
--- limits of two lists are passed by none where none of either is
-passed-append : (xs ys : List Limit) → first_passed xs ≡ None → first_passed ys ≡ None → first_passed (xs ++ ys) ≡ None
-passed-append [] ys h k = k
-passed-append (x ∷ xs) ys h k = let parts = first-behind x xs h in first-before x (xs ++ ys) parts.0 (passed-append xs ys parts.1 k)
-
-pub passed-both : (s : State) → first_passed (layout_limits s.version (counts s)) ≡ None → first_passed (answer_limits s.version (counts s)) ≡ None → passed_limit s ≡ None
-unfolding passed_limit
-passed-both s h k = passed-append (layout_limits s.version (counts s)) (answer_limits s.version (counts s)) h k
 
 -- none of two lists is passed where none of either is
 pub none-append : (xs ys : List Limit) → is_none (first_passed (xs ++ ys)) ≡ (is_none (first_passed xs) && is_none (first_passed ys))

@@ -14,6 +14,7 @@ use Rattle.hac_model.proofs.LinkLemmas.{links-fixed}
 use Rattle.hac_model.proofs.MarkLemmas.{has-filter}
 use Rattle.hac_model.proofs.TreeLemmas.{entry_at-next}
 use Rattle.hac_model.proofs.RangeLemmas.{range-has}
+use Rattle.hac_model.proofs.BoolLemmas.{and-true}
 
 -- conditions that agree on the members keep the same
 pub filter-agree : (p q : ℕ → Bool) (xs : List ℕ) → ((x : ℕ) → has xs x ≡ true → p x ≡ q x) → filter p xs ≡ filter q xs
@@ -25,10 +26,6 @@ filter-agree p q (y ∷ xs) same =
 
 filter-kept : (q : ℕ → Bool) (xs : List ℕ) → filter (λ x. has (filter q xs) x) xs ≡ filter q xs
 filter-kept q xs = filter-agree (λ x. has (filter q xs) x) q xs (λ x inside. has-filter q xs x ∙ ap (λ (b : Bool). q x && b) inside ∙ and-true (q x))
-  where
-    and-true : (b : Bool) → (b && true) ≡ b
-    and-true true = refl
-    and-true false = refl
 
 filter-none : (xs : List ℕ) → filter (λ x. false) xs ≡ []
 filter-none [] = refl
@@ -50,10 +47,6 @@ module _ (s : State) (dir : ℕ) (q : ℕ → Bool) where
     | true ↦ has-filter q (items s) item ∙ ap (λ (b : Bool). q item && b) inside ∙ and-true (q item)
     | false ↦ refl
   ]
-    where
-      and-true : (b : Bool) → (b && true) ≡ b
-      and-true true = refl
-      and-true false = refl
 
 -- the links of a directory are those that one more round finds
 module _ (s : State) (dir : ℕ) (acyclic : IsAcyclic s) where

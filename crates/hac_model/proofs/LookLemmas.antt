@@ -4,7 +4,7 @@ use Rattle.std.proofs.Common.{◌≡◌, ℕ, zero, suc, ◌-◌, Bool, true, fa
 use Rattle.std.specs.Prelude.{◌==◌, ◌&&◌, ◌||◌, not, take, Option, Some, None, Result, Ok, Err, is_some, is_none, if◌then◌else◌, IsTrue}
 use Rattle.std.specs.Option.{option_map, option_map_or}
 use Rattle.std.specs.Str.{bytes_eq}
-use Rattle.std.proofs.lemmas.Bool.{and_from, and_parts}
+use Rattle.std.proofs.lemmas.Bool.{and_from, and_parts, not-false}
 use Rattle.std.proofs.lemmas.List.{append-nil}
 use Rattle.hac_model.specs.Tree.Events.{is_vacant}
 use Rattle.hac_model.specs.Tree.Looks.{has_names, destination}
@@ -64,11 +64,8 @@ leaf-or_directory s n lives h other = kind-or_directory is_document is_leaf case
   where
     cases : (body : Body) → is_directory body ≡ false → is_document body ≡ false → is_leaf body ≡ true
     cases (File text dirty shown) h other = refl
-    cases Dir h other = absurd cc
-    cases (Semantic query permanent prohibited) h other = absurd cc
     cases (Symlink target) h other = refl
-    cases (Mount space answers) h other = absurd cc
-    cases Document h other = absurd cc
+    cases rest h other = absurd cc
 
 -- what lives is a symbolic link, an item or a directory
 pub item-or_directory : (s : State) (n : ℕ) → Lives s.entries n → is_directory_at s.entries n ≡ false → is_symlink_at s.entries n ≡ false → is_item s n ≡ true
@@ -76,11 +73,8 @@ item-or_directory s n lives h other = kind-or_directory is_symlink is_linkable c
   where
     cases : (body : Body) → is_directory body ≡ false → is_symlink body ≡ false → is_linkable body ≡ true
     cases (File text dirty shown) h other = refl
-    cases Dir h other = absurd cc
-    cases (Semantic query permanent prohibited) h other = absurd cc
-    cases (Symlink target) h other = absurd cc
-    cases (Mount space answers) h other = absurd cc
     cases Document h other = refl
+    cases rest h other = absurd cc
 
 -- a leaf is a file or a symbolic link
 pub leaf-file : (s : State) (n : ℕ) → is_leaf_at s.entries n ≡ true → is_symlink_at s.entries n ≡ false → is_file_at s.entries n ≡ true
@@ -101,10 +95,6 @@ leaf-file s n h other =
 -- where a name that isn't missing leads on
 on : List Entry → List (List ℕ) → List (List ℕ) → ℕ → Result Place Refusal
 on es walked names number = cond (has_names names && not (is_directory_at es number)) (Err (NotDir walked)) (walk es number walked names)
-
-not-false : (b : Bool) → not b ≡ false → b ≡ true
-not-false true h = refl
-not-false false h = absurd cc
 
 -- what a missing name is
 missing : ℕ → List ℕ → List (List ℕ) → List (List ℕ) → Result Place Refusal

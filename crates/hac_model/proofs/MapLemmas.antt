@@ -8,7 +8,7 @@ use Rattle.hac_model.specs.Tree.Events.{edited}
 use Rattle.hac_model.specs.Tree.Limits.{answer_limits, are_paths_short, counts, directory_count, first_passed, has_short_path, item_count, layout_limits, long_paths, mount_count, passed_limit, semantic_count, symlink_count, text_size, file_bytes}
 use Rattle.hac_model.specs.Tree.Limits as limits_of
 use Rattle.hac_model.specs.Tree.Names.{is_name}
-use Rattle.hac_model.specs.Tree.{ancestors, body_at, child, entry_at, is_directory, is_directory_at, is_document, is_file, is_linkable, is_mount, is_mount_at, is_symlink, lineage, query_in}
+use Rattle.hac_model.specs.Tree.{ancestors, body_at, child, entry_at, is_directory, is_directory_at, is_document, is_linkable, is_mount, is_mount_at, is_queried, is_symlink, lineage}
 use Rattle.hac_model.specs.Tree.Valid.{IsLayout, IsSound, NamesDiffer, NumbersRise, is_in_place}
 use Rattle.hac_model.specs.declared.limits.LimitWord.TheVariants.{Texts, Dirs, Semantics, Mounts, Symlinks, Path, Items, Numbers}
 use Rattle.hac_model.specs.declared.limits.TheConstants.{ITEMS_LIMIT, SEMANTICS_LIMIT, TEXTS_LIMIT}
@@ -16,10 +16,11 @@ use Rattle.hac_model.specs.declared.states.Body.{Body}
 use Rattle.hac_model.specs.declared.states.Entry.{Entry}
 use Rattle.hac_model.specs.declared.states.State.{State}
 use Rattle.hac_model.proofs.ChangeLemmas.{all-weaker}
-use Rattle.hac_model.proofs.CountLemmas.{directory_count-is, is_queried, keeps-linkable, measured, measured-cons, one_if}
+use Rattle.hac_model.proofs.CountLemmas.{directory_count-is, measured, measured-cons, one_if}
 use Rattle.hac_model.proofs.DepthLemmas.{names_of, path-alike}
 use Rattle.hac_model.proofs.PathLemmas.{ancestors_by, limit, lineage-is}
 use Rattle.hac_model.specs.Versions.{dirs_limit, mounts_limit, numbers_limit, symlinks_limit}
+use Rattle.hac_model.proofs.KindLemmas.{KeepsKind, KeepsRole, keeps-role, keeps-directory, keeps-document, keeps-item, keeps-mount, keeps-queried, keeps-symlink}
 
 pub all-map : {X Y : Type 0} (P : Y → Type 0) (f : X → Y) (xs : List X) → AllByRecursion (λ x. P (f x)) xs → AllByRecursion P (map f xs)
 all-map P f [] h = tt
@@ -44,13 +45,12 @@ pub directory-mapped : (edit : Body → Body) (es : List Entry) (d : ℕ) → ((
 directory-mapped edit es d same = ap (λ (b : Bool). d == 0 || b) (test-mapped is_directory edit es d same)
 
 -- an entry in place stays there, where the edit keeps directories, mounts and documents
-pub place-mapped : (edit : Body → Body) (es : List Entry) (e : Entry) → ((body : Body) → is_directory (edit body) ≡ is_directory body) → ((body : Body) → is_mount (edit body) ≡ is_mount body) → ((body : Body) → is_document (edit body) ≡ is_document body) →
-    is_in_place (map (edited edit) es) (edited edit e) ≡ is_in_place es e
-place-mapped edit es e directories mounts documents = λ i.
-    if documents e.body i then mount i else (directory-mapped edit es e.parent directories i && not (mount i))
+pub place-mapped : (edit : Body → Body) (es : List Entry) (e : Entry) → KeepsRole edit → is_in_place (map (edited edit) es) (edited edit e) ≡ is_in_place es e
+place-mapped edit es e keeps = λ i.
+    if keeps-document edit keeps e.body i then mount i else (directory-mapped edit es e.parent (keeps-directory edit keeps) i && not (mount i))
   where
     mount : is_mount_at (map (edited edit) es) e.parent ≡ is_mount_at es e.parent
-    mount = test-mapped is_mount edit es e.parent mounts
+    mount = test-mapped is_mount edit es e.parent (keeps-mount edit keeps)
 
 pub child-mapped : (edit : Body → Body) (es : List Entry) (dir : ℕ) (name : List ℕ) → child (map (edited edit) es) dir name ≡ child es dir name
 child-mapped edit [] dir name = refl
@@ -87,15 +87,13 @@ paths-mapped edit es mounts = each es
 abbrev pub mapped : (Body → Body) → State → State
 mapped edit s = record s { entries = map (edited edit) s.entries }
 
--- An edit that keeps kinds and queries, and makes no text longer.
+-- an edit that keeps kinds, and makes no text longer
 pub record KeepsMeasures (edit : Body → Body) : Type 0 where
-  pub kind : (body : Body) → is_directory (edit body) ≡ is_directory body
-  pub file : (body : Body) → is_file (edit body) ≡ is_file body
-  pub symlink : (body : Body) → is_symlink (edit body) ≡ is_symlink body
-  pub mount : (body : Body) → is_mount (edit body) ≡ is_mount body
-  pub document : (body : Body) → is_document (edit body) ≡ is_document body
-  pub queried : (body : Body) → is_some (query_in (edit body)) ≡ is_some (query_in body)
+  pub kind : KeepsKind edit
   pub texts : (body : Body) → file_bytes (edit body) ≡ file_bytes body
+
+pub measures-role : (edit : Body → Body) → KeepsMeasures edit → KeepsRole edit
+measures-role edit keeps = keeps-role edit keeps.kind
 
 pub measured-mapped : (f : Body → ℕ) (edit : Body → Body) (es : List Entry) → ((body : Body) → f (edit body) ≡ f body) → measured f (map (edited edit) es) ≡ measured f es
 measured-mapped f edit [] same = refl
@@ -118,23 +116,26 @@ counts-mapped edit s keeps = λ i. first_passed (
     texts : text_size (map (edited edit) es) ≡ text_size es
     texts = measured-mapped file_bytes edit es keeps.texts
 
+    role : KeepsRole edit
+    role = measures-role edit keeps
+
     dirs : directory_count (map (edited edit) es) ≡ directory_count es
-    dirs = omega (arith, ones is_directory keeps.kind, directory_count-is es, directory_count-is (map (edited edit) es))
+    dirs = omega (arith, ones is_directory (keeps-directory edit role), directory_count-is es, directory_count-is (map (edited edit) es))
 
     semantics : semantic_count (map (edited edit) es) ≡ semantic_count es
-    semantics = ones is_queried keeps.queried
+    semantics = ones is_queried (keeps-queried edit keeps.kind)
 
     symlinks : symlink_count (map (edited edit) es) ≡ symlink_count es
-    symlinks = ones is_symlink keeps.symlink
+    symlinks = ones is_symlink (keeps-symlink edit role)
 
     mounts : mount_count (map (edited edit) es) ≡ mount_count es
-    mounts = ones is_mount keeps.mount
+    mounts = ones is_mount (keeps-mount edit role)
 
     items : item_count (map (edited edit) es) ≡ item_count es
-    items = ones is_linkable (keeps-linkable edit keeps.file keeps.document)
+    items = ones is_linkable (keeps-item edit role)
 
     paths : long_paths (map (edited edit) es) ≡ long_paths es
-    paths = ap (λ (b : Bool). cond {A = ℕ} b 0 1) (paths-mapped edit es keeps.mount)
+    paths = ap (λ (b : Bool). cond {A = ℕ} b 0 1) (paths-mapped edit es (keeps-mount edit role))
 
 pub passed-mapped : (edit : Body → Body) (s : State) → KeepsMeasures edit → passed_limit (mapped edit s) ≡ passed_limit s
 unfolding passed_limit
@@ -151,7 +152,7 @@ pub mapped-layout : (edit : Body → Body) (s : State) → KeepsMeasures edit �
 mapped-layout edit s keeps sound h = record {
   numbers = numbers-mapped edit 0 s.entries s.next h.numbers;
   names = all-map (λ e. IsTrue (is_name e.name)) (edited edit) s.entries h.names;
-  places = all-map (λ e. IsTrue (is_in_place (map (edited edit) s.entries) e)) (edited edit) s.entries (all-weaker (λ e. IsTrue (is_in_place s.entries e)) (λ e. IsTrue (is_in_place (map (edited edit) s.entries) (edited edit e))) s.entries (λ e there. place-mapped edit s.entries e keeps.kind keeps.mount keeps.document ∙ there) h.places);
+  places = all-map (λ e. IsTrue (is_in_place (map (edited edit) s.entries) e)) (edited edit) s.entries (all-weaker (λ e. IsTrue (is_in_place s.entries e)) (λ e. IsTrue (is_in_place (map (edited edit) s.entries) (edited edit e))) s.entries (λ e there. place-mapped edit s.entries e (measures-role edit keeps) ∙ there) h.places);
   differ = differ-mapped edit s.entries h.differ;
   bodies = all-map (λ e. IsSound e.body) (edited edit) s.entries (all-weaker (λ e. IsSound e.body) (λ e. IsSound (edit e.body)) s.entries (λ e there. sound e.body there) h.bodies);
   limits = mapped-passes edit s keeps h.limits;

@@ -228,11 +228,7 @@ removed-not_provided s dir item h removed =
       where
         body : (b : Body) → has (prohibited_in b) item ≡ true → is_some (query_in b) ≡ true
         body (Semantic query permanent prohibited) inside = refl
-        body (File text dirty shown) inside = absurd cc
-        body Dir inside = absurd cc
-        body (Symlink target) inside = absurd cc
-        body (Mount space answers) inside = absurd cc
-        body Document inside = absurd cc
+        body other inside = absurd cc
 
     nothing : (a : Bool) → ((false || a) || false) ≡ a
     nothing true = refl

@@ -2,7 +2,7 @@
 use Rattle.std.proofs.Common.{◌≡◌, ℕ, ◌+◌, ◌≤◌, Bool, true, false, cond, List, [], ◌∷◌, refl, ap, sym, ◌∙◌, arith, eq-eqb, inl, inr}
 use Rattle.std.specs.Prelude.{◌==◌, ◌&&◌, ◌||◌, not, nat_lt, filter}
 use Rattle.std.specs.List.{AllByRecursion}
-use Rattle.std.proofs.lemmas.Bool.{cases_order, eqb-true, ltb-true, ltb-false, eqb-false, ne_eqb, not-true}
+use Rattle.std.proofs.lemmas.Bool.{cases_order, eqb-false, eqb-true, ltb-false, ltb-true, ne_eqb, not-true, or_parts}
 use Rattle.hac_model.specs.Tree.Events.{can_have_mark, forgetting, marked, marking, put_in, without}
 use Rattle.hac_model.specs.Tree.Links.{can_be_added, has, is_item}
 use Rattle.hac_model.specs.Tree.Valid.{AreMarks, AsksWell, IsSoundQuery, RiseFrom}
@@ -12,6 +12,7 @@ use Rattle.hac_model.specs.declared.states.Body.{Body}
 use Rattle.hac_model.specs.declared.states.Body.TheVariants.{Semantic}
 use Rattle.hac_model.specs.declared.states.State.{State}
 use Rattle.hac_model.proofs.ChangeLemmas.{all-both, all-filter, all-weaker}
+use Rattle.hac_model.proofs.BoolLemmas.{and-false, or-turned}
 
 -- what is kept was there and passes
 pub has-filter : (p : ℕ → Bool) (xs : List ℕ) (x : ℕ) → has (filter p xs) x ≡ (p x && has xs x)
@@ -37,22 +38,13 @@ has-without n xs = has-filter (λ other. not (other == n)) xs n ∙ ap (λ (b : 
 -- and what isn't there isn't there once another was taken out
 pub absent-without : (n : ℕ) (xs : List ℕ) (m : ℕ) → has xs m ≡ false → has (without n xs) m ≡ false
 absent-without n xs m absent = has-filter (λ other. not (other == n)) xs m ∙ ap (λ (b : Bool). not (m == n) && b) absent ∙ and-false (not (m == n))
-  where
-    and-false : (b : Bool) → (b && false) ≡ false
-    and-false true = refl
-    and-false false = refl
 
 pub has-put_in : (n : ℕ) (xs : List ℕ) (m : ℕ) → has (put_in n xs) m ≡ (n == m || has xs m)
 has-put_in n [] m = refl
 has-put_in n (x ∷ xs) m = elim (nat_lt n x) as (λ b. has (cond b (n ∷ x ∷ xs) (x ∷ put_in n xs)) m ≡ (n == m || (x == m || has xs m))) [
   | true ↦ refl
-  | false ↦ ap (λ (b : Bool). x == m || b) (has-put_in n xs m) ∙ swap (x == m) (n == m) (has xs m)
+  | false ↦ ap (λ (b : Bool). x == m || b) (has-put_in n xs m) ∙ or-turned (x == m) (n == m) (has xs m)
 ]
-  where
-    swap : (a b c : Bool) → (a || (b || c)) ≡ (b || (a || c))
-    swap true true c = refl
-    swap true false c = refl
-    swap false b c = refl
 
 pub all-put_in : (P : ℕ → Type 0) (n : ℕ) (xs : List ℕ) → P n → AllByRecursion P xs → AllByRecursion P (put_in n xs)
 all-put_in P n [] p h = (p, tt)
@@ -85,16 +77,12 @@ rise-filter p bound (x ∷ xs) h =
 rise-put_in : (n bound : ℕ) (xs : List ℕ) → bound ≤ n → has xs n ≡ false → RiseFrom bound xs → RiseFrom bound (put_in n xs)
 rise-put_in n bound [] low absent h = (low, tt)
 rise-put_in n bound (x ∷ xs) low absent h =
-    let parts = none-of (x == n) (has xs n) absent in
+    let parts = or_parts (x == n) (has xs n) absent in
     elim (nat_lt n x) as (λ b. nat_lt n x ≡ b → RiseFrom bound (cond b (n ∷ x ∷ xs) (x ∷ put_in n xs))) [
       | true ↦ (λ less. (low, ((let above = ltb-true n x less in omega arith), h.1)))
       | false ↦ (λ more. (h.0, rise-put_in n (x + 1) xs (above (ltb-false n x more) (eqb-false x n parts.0)) parts.1 h.1))
     ] refl
   where
-    none-of : (a b : Bool) → (a || b) ≡ false → (a ≡ false) × (b ≡ false)
-    none-of true b h = absurd cc
-    none-of false b h = (refl, h)
-
     above : x ≤ n → (x ≡ n → ⊥) → x + 1 ≤ n
     above less other = elim (cases_order x n) [
       | inl same ↦ absurd (other same)

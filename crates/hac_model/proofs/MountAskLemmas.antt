@@ -3,7 +3,7 @@ use Rattle.std.proofs.Common.{◌≡◌, ℕ, ◌+◌, inl, inr, Bool, true, fal
 use Rattle.std.specs.Prelude.{◌⊎◌, ◌==◌, ◌&&◌, ◌||◌, if◌then◌else◌, not, filter, Option, Some, None, IsTrue, option_and_then}
 use Rattle.std.specs.Option.{option_map, option_map_or}
 use Rattle.std.specs.List.{AllByRecursion, list_all}
-use Rattle.std.proofs.lemmas.Bool.{and_parts, eqb-false, eqb-true, ne_eqb, not-true}
+use Rattle.std.proofs.lemmas.Bool.{and_parts, eqb-false, eqb-true, ne_eqb, not-true, or_parts}
 use Rattle.hac_model.specs.Tree.Changes.{added, changed_at, edited}
 use Rattle.hac_model.specs.Tree.Depends.{named_in, names_directory, refers_to}
 use Rattle.hac_model.specs.Tree.Events.{is_unreferenced}
@@ -24,7 +24,8 @@ use Rattle.hac_model.proofs.MarkLemmas.{all-passes, has-filter, rise-filter}
 use Rattle.hac_model.proofs.PathLemmas.{root-none}
 use Rattle.hac_model.proofs.StayLemmas.{DirectoriesStay, ItemsStay, all-stay, ask-stays, sessions-stay, sessions-there}
 use Rattle.hac_model.proofs.TreeLemmas.{directory-no_item, entry_at-all, entry_at-cases, entry_at-low, entry_at-number}
-use Rattle.hac_model.proofs.SuchLemmas.{such-directory, such-item}
+use Rattle.hac_model.proofs.KindLemmas.{role-keeping, role-such, keeps-directory, keeps-item}
+use Rattle.hac_model.proofs.BoolLemmas.{and-false}
 
 -- Entries come that ask nothing.
 
@@ -119,11 +120,11 @@ module _ (test : Entry → Bool) (s : State) (h : IsLayout s) where
       ∙ ap (λ (o : Option Entry). option_map_or of (option_map (λ (e : Entry). e.body) o) false) (entry_at-stays test s n h other)
 
   pub cleared-directory : (d : ℕ) → gone d ≡ false → is_directory_at (cleared test s).entries d ≡ is_directory_at s.entries d
-  cleared-directory d other = ap (λ (b : Bool). d == 0 || b) (cleared-test is_directory d (such-directory gone) other)
+  cleared-directory d other = ap (λ (b : Bool). d == 0 || b) (cleared-test is_directory d (keeps-directory (forgetting_such gone) (role-such gone)) other)
 
   -- what may be added, and what is an item, is so still where it stays
   pub cleared-item : (n : ℕ) → gone n ≡ false → is_item (cleared test s) n ≡ is_item s n
-  cleared-item n other = cleared-test is_linkable n (such-item gone) other
+  cleared-item n other = cleared-test is_linkable n (keeps-item (forgetting_such gone) (role-such gone)) other
 
   pub cleared-added : (n : ℕ) → gone n ≡ false → can_be_added (cleared test s) n ≡ can_be_added s n
   cleared-added n other = λ i. cleared-item n other i || cleared-directory n other i
@@ -138,10 +139,6 @@ module _ (test : Entry → Bool) (s : State) (h : IsLayout s) where
         (all-weaker (λ n. has prohibited n ≡ false) (λ n. has (numbers_without gone prohibited) n ≡ false) permanent (λ n absent. has-filter (λ n. not (gone n)) prohibited n ∙ ap (λ (b : Bool). not (gone n) && b) absent ∙ and-false (not (gone n))) asks.apart);
   }
     where
-      and-false : (b : Bool) → (b && false) ≡ false
-      and-false true = refl
-      and-false false = refl
-
       marks : (of kept : ℕ → Bool) → ((n : ℕ) → gone n ≡ false → kept n ≡ of n) → (ns : List ℕ) → AreMarks of ns → AreMarks kept (numbers_without gone ns)
       marks of kept same ns m = record {
         rise = rise-filter (λ n. not (gone n)) 0 ns m.rise;
@@ -214,24 +211,16 @@ mounted-queries s dir name space answers documents h =
     extended-asks u (u.next + length documents) (documents_from u.next s.next documents) (documents-ask_nothing u.next s.next documents)
     (extended-asks s u.next (record { number = s.next; parent = dir; name = name; body = Mount space answers } ∷ []) (refl, tt) h.queries)
 
-keeping-directory : (answers : List Answer) (body : Body) → is_directory (keeping answers body) ≡ is_directory body
-keeping-directory answers (Mount space kept) = refl
-keeping-directory answers other = refl
-
-keeping-item : (answers : List Answer) (body : Body) → is_linkable (keeping answers body) ≡ is_linkable body
-keeping-item answers (Mount space kept) = refl
-keeping-item answers other = refl
-
 keeping-asks : (s : State) (answers : List Answer) (body : Body) → AsksWell s body → AsksWell s (keeping answers body)
 keeping-asks s answers (Semantic query permanent prohibited) h = h
 keeping-asks s answers other h = tt
 
 -- directories and items of a state in which a mount keeps other answers
 pub keeping-directories : (s : State) (mount : ℕ) (answers : List Answer) → DirectoriesStay s (changed_at s mount (edited (keeping answers)))
-keeping-directories s mount answers d there = directory-changed mount (edited (keeping answers)) s.entries d (λ e. refl) (λ e. keeping-directory answers e.body) ∙ there
+keeping-directories s mount answers d there = directory-changed mount (edited (keeping answers)) s.entries d (λ e. refl) (λ e. (keeps-directory (keeping answers) (role-keeping answers)) e.body) ∙ there
 
 pub keeping-items : (s : State) (mount : ℕ) (answers : List Answer) → ItemsStay s (changed_at s mount (edited (keeping answers)))
-keeping-items s mount answers n there = test-changed is_linkable mount (edited (keeping answers)) s.entries n (λ e. refl) (λ e. keeping-item answers e.body) ∙ there
+keeping-items s mount answers n there = test-changed is_linkable mount (edited (keeping answers)) s.entries n (λ e. refl) (λ e. (keeps-item (keeping answers) (role-keeping answers)) e.body) ∙ there
 
 pub synced-queries : (s : State) (mount : ℕ) (answers : List Answer) (documents : List (List ℕ)) → IsValid s →
     AllByRecursion (λ e. AsksWell (synced s mount answers documents) e.body) (synced s mount answers documents).entries
@@ -284,13 +273,9 @@ synced-sessions s mount answers documents h =
 pub unmounted-sessions : (s : State) (mount : ℕ) → IsValid s → is_mount_at s.entries mount ≡ true → is_busy s.sessions mount ≡ false → AreSessions (unmounted s mount)
 unmounted-sessions s mount h here idle = sessions-there s (unmounted s mount) refl refl h.sessions (each s.sessions idle h.sessions.there)
   where
-    neither : (a b : Bool) → (a || b) ≡ false → (a ≡ false) × (b ≡ false)
-    neither true b h = absurd cc
-    neither false b h = (refl, h)
-
     each : (sessions : List Session) → is_busy sessions mount ≡ false → AllByRecursion (λ session. IsTrue (is_directory_at s.entries session.dir)) sessions → AllByRecursion (λ session. IsTrue (is_directory_at (unmounted s mount).entries session.dir)) sessions
     each [] idle there = tt
     each (session ∷ sessions) idle there =
-        let parts = neither (session.dir == mount) (is_busy sessions mount) idle in
+        let parts = or_parts (session.dir == mount) (is_busy sessions mount) idle in
         let left = of_mount-directory s mount session.dir h.layout here there.0 (eqb-false session.dir mount parts.0) in
         (cleared-directory (is_of_mount mount) s h.layout session.dir left ∙ there.0, each sessions parts.1 there.1)

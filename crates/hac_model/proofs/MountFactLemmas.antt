@@ -38,11 +38,7 @@ module _ (is_dir : ℕ → Bool) where
 
   document-untold : (dir : ℕ) (body : Body) → is_document body ≡ true → facts_in is_dir dir body ≡ no_facts
   document-untold dir Document is = refl
-  document-untold dir (File text dirty shown) is = absurd cc
-  document-untold dir Dir is = absurd cc
-  document-untold dir (Symlink target) is = absurd cc
-  document-untold dir (Semantic query permanent prohibited) is = absurd cc
-  document-untold dir (Mount space answers) is = absurd cc
+  document-untold dir other is = absurd cc
 
   come-untold : (next mount n : ℕ) (names : List (List ℕ)) → facts_at is_dir (entry_at (documents_from next mount names) n) ≡ no_facts
   come-untold next mount n [] = refl
@@ -135,11 +131,7 @@ module _ (is_dir : ℕ → Bool) where
     where
       body : (b : Body) → is_mount b ≡ true → facts_in is_dir e.parent (keeping answers b) ≡ record no_facts { answers = answers }
       body (Mount space kept) is = refl
-      body (File text dirty shown) is = absurd cc
-      body Dir is = absurd cc
-      body (Symlink target) is = absurd cc
-      body (Semantic query permanent prohibited) is = absurd cc
-      body Document is = absurd cc
+      body other is = absurd cc
 
   pub synced-facts : (s : State) (mount : ℕ) (answers : List Answer) (documents : List (List ℕ)) → IsLayout s → is_mount_at s.entries mount ≡ true → ((n : ℕ) → AreLeft (is_such_at (is_gone mount documents) s.entries) (facts_by s n).marks.permanent) → (n : ℕ) →
       facts_by (synced s mount answers documents) n ≡ put_at (facts_without (is_such_at (is_gone mount documents) s.entries) (facts_by s)) mount (record no_facts { answers = answers }) n

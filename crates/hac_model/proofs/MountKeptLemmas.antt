@@ -30,7 +30,9 @@ use Rattle.hac_model.proofs.MountLayoutLemmas.{all-documents, all-tested, entry_
 use Rattle.hac_model.proofs.TermLemmas.{all-order, answers-rise, asked-kept, in_use-askable, order-chain}
 use Rattle.hac_model.proofs.TreeLemmas.{all-entries, entry_at-all, entry_at-below, entry_at-number, place-directory}
 use Rattle.hac_model.proofs.ValidLemmas.{directory-below, free-parts}
-use Rattle.hac_model.proofs.SuchLemmas.{such-document, such-terms}
+use Rattle.hac_model.proofs.SuchLemmas.{such-terms}
+use Rattle.hac_model.proofs.KindLemmas.{role-keeping, role-such, keeps-document}
+use Rattle.hac_model.proofs.BoolLemmas.{and-false}
 
 -- What is found where entries come.
 
@@ -300,12 +302,8 @@ all-self (name ∷ names) = (
 
 -- what keeps answers kept them before
 such-mounts : (test : ℕ → Bool) (body : Body) (space : List ℕ) (answers : List Answer) → forgetting_such test body ≡ Mount space answers → body ≡ Mount space answers
-such-mounts test (Semantic query permanent prohibited) space answers h = absurd cc
 such-mounts test (Mount shown kept) space answers h = h
-such-mounts test (File text dirty shown) space answers h = absurd cc
-such-mounts test Dir space answers h = absurd cc
-such-mounts test (Symlink target) space answers h = absurd cc
-such-mounts test Document space answers h = absurd cc
+such-mounts test other space answers h = absurd cc
 
 left-of : (test : Entry → Bool) (s : State) (n : ℕ) (e : Entry) → NumbersRise 0 s.entries s.next → entry_at (without_such test s).entries n ≡ Some e → (entry_at s.entries n ≡ Some e) × (test e ≡ false)
 left-of test s n e rise found = at (entry_at s.entries n) refl (sym (entry_at-filter (λ e. not (test e)) 0 s.entries s.next n rise) ∙ found)
@@ -359,7 +357,7 @@ module _ (s : State) (mount : ℕ) (h : IsValid s) (there : is_mount_at s.entrie
   unmounted-documents : (m k : ℕ) → (m == mount) ≡ false → is_document_of s m k ≡ true → is_document_of (unmounted s mount) m k ≡ true
   unmounted-documents m k other is =
       ap (document_by m) (cleared-found (is_of_mount mount) s h k d found.1 (ap (λ (b : Bool). b || d.parent == mount) apart-number ∙ apart-parent))
-      ∙ ap (λ (b : Bool). b && (d.parent == m)) (such-document (is_such_at (is_of_mount mount) s.entries) d.body)
+      ∙ ap (λ (b : Bool). b && (d.parent == m)) (keeps-document (forgetting_such (is_such_at (is_of_mount mount) s.entries)) (role-such (is_such_at (is_of_mount mount) s.entries)) d.body)
       ∙ sym (ap (document_by m) found.1) ∙ is
     where
       found : (e : Entry) × (entry_at s.entries k ≡ Some e) × (is_document e.body ≡ true)
@@ -382,11 +380,7 @@ module _ (s : State) (mount : ℕ) (h : IsValid s) (there : is_mount_at s.entrie
         where
           never : (b : Body) → is_document b ≡ true → is_mount b ≡ true → ⊥
           never Document h k = absurd cc
-          never (Mount space answers) h k = absurd cc
-          never (File text dirty shown) h k = absurd cc
-          never Dir h k = absurd cc
-          never (Symlink target) h k = absurd cc
-          never (Semantic query permanent prohibited) h k = absurd cc
+          never other h k = absurd cc
 
   pub unmounted-keeps : NumbersRise 0 (unmounted s mount).entries s.next → AllByRecursion (λ e. KeepsWell (unmounted s mount) e.number e.body) (unmounted s mount).entries
   unmounted-keeps rise = all-entries (λ e. KeepsWell (unmounted s mount) e.number e.body) 0 (unmounted s mount).entries s.next rise (λ e found. keeps-none (unmounted s mount) e.number e.body (λ shown answers is. from e shown answers is (cleared-of (is_of_mount mount) s h e.number e found)))
@@ -406,10 +400,6 @@ module _ (s : State) (mount : ℕ) (h : IsValid s) (there : is_mount_at s.entrie
 keeping-terms : (answers : List Answer) (body : Body) → terms_in (keeping answers body) ≡ terms_in body
 keeping-terms answers (Mount space kept) = refl
 keeping-terms answers other = refl
-
-keeping-kind : (answers : List Answer) (body : Body) → is_document (keeping answers body) ≡ is_document body
-keeping-kind answers (Mount space kept) = refl
-keeping-kind answers other = refl
 
 module _ (s : State) (mount : ℕ) (told : List (List ℕ)) (documents : List (List ℕ)) (h : IsValid s) (there : is_mount_at s.entries mount ≡ true) where
   abbrev synced-answers : List Answer
@@ -450,7 +440,7 @@ module _ (s : State) (mount : ℕ) (told : List (List ℕ)) (documents : List (L
   synced-documents m k other is =
       ap (document_by m) (synced-at k ∙ ap (option_map (touched mount (edited (keeping synced-answers)))) (entry_at-documents (cleared gone s).entries s.next mount k (fresh s mount documents) low ∙ cleared-found gone s h k d found.1 stays))
       ∙ touched-document (edited forget d)
-      ∙ ap (λ (b : Bool). b && (d.parent == m)) (such-document (is_such_at gone s.entries) d.body)
+      ∙ ap (λ (b : Bool). b && (d.parent == m)) (keeps-document (forgetting_such (is_such_at gone s.entries)) (role-such (is_such_at gone s.entries)) d.body)
       ∙ sym (ap (document_by m) found.1) ∙ is
     where
       found : (e : Entry) × (entry_at s.entries k ≡ Some e) × (is_document e.body ≡ true)
@@ -467,14 +457,10 @@ module _ (s : State) (mount : ℕ) (told : List (List ℕ)) (documents : List (L
 
       stays : gone d ≡ false
       stays = ap (λ (b : Bool). is_document d.body && (b && not (is_among documents d.name))) (ap (λ (x : ℕ). x == mount) parent ∙ other) ∙ and-false (is_document d.body)
-        where
-          and-false : (b : Bool) → (b && false) ≡ false
-          and-false true = refl
-          and-false false = refl
 
       touched-document : (e : Entry) → document_by m (Some (touched mount (edited (keeping synced-answers)) e)) ≡ document_by m (Some e)
       touched-document e = elim (e.number == mount) as (λ b. document_by m (Some (if b then edited (keeping synced-answers) e else e)) ≡ document_by m (Some e)) [
-        | true ↦ ap (λ (b : Bool). b && (e.parent == m)) (keeping-kind synced-answers e.body)
+        | true ↦ ap (λ (b : Bool). b && (e.parent == m)) (keeps-document (keeping synced-answers) (role-keeping synced-answers) e.body)
         | false ↦ refl
       ]
 
@@ -531,11 +517,7 @@ module _ (s : State) (mount : ℕ) (told : List (List ℕ)) (documents : List (L
         where
           told-kept : (b : Body) → keeping synced-answers b ≡ Mount shown answers → Mount shown synced-answers ≡ Mount shown answers
           told-kept (Mount space kept) k = let same : synced-answers ≡ answers = cc in ap (λ (a : List Answer). Mount shown a) same
-          told-kept (File text dirty old) k = absurd cc
-          told-kept Dir k = absurd cc
-          told-kept (Symlink target) k = absurd cc
-          told-kept (Semantic query permanent prohibited) k = absurd cc
-          told-kept Document k = absurd cc
+          told-kept other k = absurd cc
 
       from : (e : Entry) (shown : List ℕ) (answers : List Answer) → e.body ≡ Mount shown answers → (o : Option Entry) → entry_at u.entries e.number ≡ o → option_map (touched mount (edited (keeping synced-answers))) o ≡ Some e → KeepsWell v e.number (Mount shown answers)
       from e shown answers is None at k = absurd cc

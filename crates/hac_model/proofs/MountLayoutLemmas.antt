@@ -17,16 +17,17 @@ use Rattle.hac_model.specs.Tree.Valid.{IsLayout, IsSound, NamesDiffer, NumbersRi
 use Rattle.hac_model.specs.declared.limits.TheConstants.{DOCS_LIMIT}
 use Rattle.hac_model.specs.declared.states.Answer.{Answer}
 use Rattle.hac_model.specs.declared.states.Body.{Body}
-use Rattle.hac_model.specs.declared.states.Body.TheVariants.{File, Dir, Symlink, Semantic, Mount, Document}
+use Rattle.hac_model.specs.declared.states.Body.TheVariants.{Dir, Semantic, Mount, Document}
 use Rattle.hac_model.specs.declared.states.Entry.{Entry}
 use Rattle.hac_model.specs.declared.states.State.{State}
 use Rattle.hac_model.proofs.ChangeLemmas.{all-filter, all-joined, all-weaker, apart, child-filter, entry_at-filter, entry_at-new, first_apart}
 use Rattle.hac_model.proofs.FittingLemmas.{IsFitting, LeavesDirectories, fitting-layout, layout-fits, mapped-fits, without-fits}
 use Rattle.hac_model.proofs.MapLemmas.{child-mapped, test-mapped}
 use Rattle.hac_model.proofs.TreeLemmas.{Lives, directory-lives, entry_at-all, entry_at-below, entry_at-next, entry_at-number, place-directory, place-same}
-use Rattle.hac_model.proofs.ValidLemmas.{KeepsPlaces, added-fits, edited-fits, free-parts, none_from}
-use Rattle.hac_model.proofs.SuchLemmas.{such-directory, such-document, such-mount, such-sound}
+use Rattle.hac_model.proofs.ValidLemmas.{added-fits, edited-fits, free-parts, none_from}
+use Rattle.hac_model.proofs.SuchLemmas.{such-sound}
 use Rattle.hac_model.proofs.NameOrderLemmas.{before-differs}
+use Rattle.hac_model.proofs.KindLemmas.{role-keeping, role-such, keeps-mount}
 
 -- Names of documents.
 
@@ -167,21 +168,6 @@ with_documents-fits s mount names h there named rise free = record {
 
 -- Edits of bodies.
 
-pub keeping-places : (answers : List Answer) → KeepsPlaces (keeping answers)
-keeping-places answers = record { directories = directories; mounts = mounts; documents = documents }
-  where
-    directories : (body : Body) → is_directory (keeping answers body) ≡ is_directory body
-    directories (Mount space kept) = refl
-    directories other = refl
-
-    mounts : (body : Body) → is_mount (keeping answers body) ≡ is_mount body
-    mounts (Mount space kept) = refl
-    mounts other = refl
-
-    documents : (body : Body) → is_document (keeping answers body) ≡ is_document body
-    documents (Mount space kept) = refl
-    documents other = refl
-
 keeping-sound : (answers : List Answer) (body : Body) → IsSound body → IsSound (keeping answers body)
 keeping-sound answers (Mount space kept) h = h
 keeping-sound answers other h = h
@@ -189,19 +175,17 @@ keeping-sound answers other h = h
 -- Entries go.
 
 pub cleared-fits : (test : Entry → Bool) (s : State) → LeavesDirectories test s → IsFitting s → IsFitting (cleared test s)
-cleared-fits test s stays h = mapped-fits (forgetting_such at) (without_such test s) (such-directory at) (such-mount at) (such-document at) (such-sound at) (without-fits test s stays h)
+cleared-fits test s stays h = mapped-fits (forgetting_such at) (without_such test s) (role-such at) (such-sound at) (without-fits test s stays h)
   where
     at : ℕ → Bool
     at = is_such_at test s.entries
 
 -- no document is a directory
 directory-document : (body : Body) → is_directory body ≡ true → is_document body ≡ false
-directory-document Document h = absurd cc
-directory-document (File text dirty shown) h = absurd cc
-directory-document (Symlink target) h = absurd cc
 directory-document Dir h = refl
 directory-document (Semantic query permanent prohibited) h = refl
 directory-document (Mount space answers) h = refl
+directory-document other h = absurd cc
 
 -- what is a directory isn't a document that is gone
 pub gone-directory : (mount : ℕ) (names : List (List ℕ)) (x : Entry) → is_directory x.body ≡ true → is_gone mount names x ≡ false
@@ -274,16 +258,12 @@ fresh-free s mount documents = each documents
 
 mount-body : (body : Body) → is_mount body ≡ true → is_directory body ≡ true
 mount-body (Mount space answers) is = refl
-mount-body (File text dirty shown) is = absurd cc
-mount-body Dir is = absurd cc
-mount-body (Symlink target) is = absurd cc
-mount-body (Semantic query permanent prohibited) is = absurd cc
-mount-body Document is = absurd cc
+mount-body other is = absurd cc
 
 -- a mount stays one where documents go
 pub cleared-mount : (s : State) (mount : ℕ) (documents : List (List ℕ)) → IsFitting s → is_mount_at s.entries mount ≡ true → is_mount_at (cleared (is_gone mount documents) s).entries mount ≡ true
 cleared-mount s mount documents h there =
-    test-mapped is_mount (forgetting_such at) (without_such (is_gone mount documents) s).entries mount (such-mount at) ∙ left
+    test-mapped is_mount (forgetting_such at) (without_such (is_gone mount documents) s).entries mount (keeps-mount (forgetting_such at) (role-such at)) ∙ left
   where
     at : ℕ → Bool
     at = is_such_at (is_gone mount documents) s.entries
@@ -306,7 +286,7 @@ redocumented-fits s mount documents h there told =
 
 pub synced-layout : (s : State) (mount : ℕ) (answers : List Answer) (documents : List (List ℕ)) → IsLayout s → is_mount_at s.entries mount ≡ true → are_documents documents ≡ true → passed_limit (synced s mount answers documents) ≡ None → IsLayout (synced s mount answers documents)
 synced-layout s mount answers documents h there told limits =
-    fitting-layout (synced s mount answers documents) (edited-fits (redocumented s mount documents) mount (keeping answers) (keeping-places answers) (keeping-sound answers) (redocumented-fits s mount documents h there told)) limits
+    fitting-layout (synced s mount answers documents) (edited-fits (redocumented s mount documents) mount (keeping answers) (role-keeping answers) (keeping-sound answers) (redocumented-fits s mount documents h there told)) limits
 
 pub unmounted-layout : (s : State) (mount : ℕ) → IsLayout s → is_mount_at s.entries mount ≡ true → passed_limit (unmounted s mount) ≡ None → IsLayout (unmounted s mount)
 unmounted-layout s mount h there limits =
@@ -314,11 +294,7 @@ unmounted-layout s mount h there limits =
 
 pub document-is : (b : Body) → is_document b ≡ true → b ≡ Document
 document-is Document is = refl
-document-is (File text dirty shown) is = absurd cc
-document-is Dir is = absurd cc
-document-is (Symlink target) is = absurd cc
-document-is (Semantic query permanent prohibited) is = absurd cc
-document-is (Mount space answers) is = absurd cc
+document-is other is = absurd cc
 
 -- the entry of a mount
 pub mount-found : (es : List Entry) (mount : ℕ) → is_mount_at es mount ≡ true → (e : Entry) × (entry_at es mount ≡ Some e) × (is_mount e.body ≡ true)

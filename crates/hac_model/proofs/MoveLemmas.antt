@@ -24,6 +24,7 @@ use Rattle.hac_model.proofs.PathLemmas.{ancestors-none, ancestors-step, ancestor
 use Rattle.hac_model.proofs.TreeLemmas.{Lives, all-entries, directory-lives, entry_at-below, entry_at-cases, entry_at-next, entry_at-number, rise-below}
 use Rattle.hac_model.proofs.LayoutLemmas.{apply-layout}
 use Rattle.hac_model.proofs.ValidLemmas.{accepted-parts, free-parts, move-parts}
+use Rattle.hac_model.proofs.BoolLemmas.{and-true}
 
 -- An entry is added.
 
@@ -73,10 +74,6 @@ paths-added s dir name body h lives =
     ∙ ap (λ (b : Bool). b && list_all test (new ∷ [])) old
     ∙ and-true (test new)
     ∙ short-new s new h refl lives
-  where
-    and-true : (b : Bool) → (b && true) ≡ b
-    and-true true = refl
-    and-true false = refl
 
 -- An entry is moved.
 

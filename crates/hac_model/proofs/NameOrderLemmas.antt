@@ -14,11 +14,11 @@ use Rattle.std.proofs.lemmas.Map.Text.{is_eq-slice_cmp}
 use Rattle.std.proofs.lemmas.Slice.Eq.{bytes_eq-Decides}
 use Rattle.hac_model.specs.Tree.Listing.{is_before}
 use Rattle.hac_model.specs.Tree.Mounting.{do_names_rise, is_among}
+use Rattle.hac_model.proofs.BoolLemmas.{or-true}
 
 pub less-from : (o : Ordering) → is_lt o ≡ true → o ≡ Less
 less-from Less h = refl
-less-from Equal h = absurd cc
-less-from Greater h = absurd cc
+less-from other h = absurd cc
 
 -- each name comes before the one behind it, up to one
 abbrev pub IsChainTo : List (List ℕ) → ℕ → Type 0
@@ -41,10 +41,6 @@ among-at : (names : List (List ℕ)) (name : List ℕ) (i : ℕ) (d : List ℕ) 
 among-at [] name i d inside same = absurd (omega arith)
 among-at (x ∷ xs) name zero d inside same = ap (λ (b : Bool). b || is_among xs name) same
 among-at (x ∷ xs) name (suc i) d inside same = ap (λ (b : Bool). bytes_eq name x || b) (among-at xs name i d (omega arith) same) ∙ or-true (bytes_eq name x)
-  where
-    or-true : (b : Bool) → (b || true) ≡ true
-    or-true true = refl
-    or-true false = refl
 
 among-never : (names : List (List ℕ)) (name : List ℕ) → ((k : ℕ) (d : List ℕ) → k < length names → bytes_eq name (get_or names k d) ≡ false) → is_among names name ≡ false
 among-never [] name never = refl
@@ -107,6 +103,5 @@ before-other x y h k =
     ∙ turned (slice_cmp nat_cmp x y) h (sym (texts_ties x y) ∙ k)
   where
     turned : (o : Ordering) → is_lt o ≡ false → is_eq o ≡ false → is_lt (ordering_reverse o) ≡ true
-    turned Less h k = absurd cc
-    turned Equal h k = absurd cc
     turned Greater h k = refl
+    turned other h k = absurd cc

@@ -6,18 +6,19 @@ use Rattle.std.specs.List.{AllByRecursion}
 use Rattle.std.proofs.lemmas.Bool.{ltb-false, le-ltb}
 use Rattle.hac_model.specs.Tree.Events.{apply, changed_at, edited, indexed, is_empty_at, next_dirty, removed}
 use Rattle.hac_model.specs.Tree.Limits.{directory_count, passed_limit, text_size, file_bytes}
-use Rattle.hac_model.specs.Tree.{is_directory, is_linkable, is_mount, is_symlink}
+use Rattle.hac_model.specs.Tree.{is_directory, is_linkable, is_mount, is_queried, is_symlink}
 use Rattle.hac_model.specs.Tree.Valid.{IsLayout}
 use Rattle.hac_model.specs.declared.events.Event.TheVariants.{Rmdir, Step}
 use Rattle.hac_model.specs.declared.limits.TheConstants.{SEMANTICS_LIMIT, ITEMS_LIMIT}
 use Rattle.hac_model.specs.declared.states.Body.{Body}
 use Rattle.hac_model.specs.declared.states.State.{State}
 use Rattle.hac_model.proofs.ChangeLemmas.{is_kept}
-use Rattle.hac_model.proofs.CountLemmas.{directory_count-edited, directory_count-is, indexed-keeps, item_count-edited, KeepsKind, measured-fewer, mount_count-edited, one_if, is_queried, semantic_count-edited, symlink_count-edited, text_size-indexed}
+use Rattle.hac_model.proofs.CountLemmas.{directory_count-edited, directory_count-is, item_count-edited, measured-fewer, mount_count-edited, one_if, semantic_count-edited, symlink_count-edited, text_size-indexed}
 use Rattle.hac_model.proofs.DepthLemmas.{paths-edited, paths-removed}
 use Rattle.hac_model.proofs.LimitLemmas.{IsWithinLimits, limits-none, limits-within}
 use Rattle.hac_model.proofs.ValidLemmas.{bare-all}
 use Rattle.hac_model.specs.Versions.{dirs_limit, mounts_limit, symlinks_limit}
+use Rattle.hac_model.proofs.KindLemmas.{KeepsKind, keeps-role, kind-indexed, keeps-mount}
 
 -- a smaller count is within the limit too
 smaller : (limit m n : ℕ) → m ≤ n → nat_lt limit n ≡ false → nat_lt limit m ≡ false
@@ -33,7 +34,7 @@ edited-passes s n edit h keeps lighter =
       semantics = ap (λ (k : ℕ). nat_lt SEMANTICS_LIMIT k) (semantic_count-edited s n edit keeps) ∙ old.semantics;
       mounts = ap (λ (k : ℕ). nat_lt (mounts_limit s.version) k) (mount_count-edited s n edit keeps) ∙ old.mounts;
       symlinks = ap (λ (k : ℕ). nat_lt (symlinks_limit s.version) k) (symlink_count-edited s n edit keeps) ∙ old.symlinks;
-      paths = paths-edited s.entries n edit keeps.mounts ∙ old.paths;
+      paths = paths-edited s.entries n edit (keeps-mount edit (keeps-role edit keeps)) ∙ old.paths;
       items = ap (λ (k : ℕ). nat_lt ITEMS_LIMIT k) (item_count-edited s n edit keeps) ∙ old.items;
       numbers = old.numbers;
     })
@@ -42,7 +43,7 @@ edited-passes s n edit h keeps lighter =
 pub step-passes : (s : State) → IsLayout s → passed_limit (apply s Step) ≡ None
 step-passes s h = elim (next_dirty s.entries) as (λ o. passed_limit (option_map_or (λ file. changed_at s file (edited indexed)) o s) ≡ None) [
   | None ↦ h.limits
-  | Some file ↦ edited-passes s file indexed h indexed-keeps (text_size-indexed s file)
+  | Some file ↦ edited-passes s file indexed h kind-indexed (text_size-indexed s file)
 ]
 
 -- nor does it once an empty entry is removed

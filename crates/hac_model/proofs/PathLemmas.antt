@@ -1,18 +1,18 @@
 -- Paths in a valid state: each leads to the entry whose path it is, and no two entries have one.
 use Rattle.std.proofs.Common.{◌≡◌, ℕ, zero, suc, ◌+◌, ◌<◌, ◌≤◌, Bool, true, false, cond, List, [], ◌∷◌, ◌++◌, length, map, reverse, subst, refl, ap, sym, ◌∙◌, arith, eq-eqb, inl, inr, append_assoc, length-append}
-use Rattle.std.specs.Prelude.{◌==◌, ◌&&◌, ◌||◌, not, nat_le, take, Option, Some, None, Result, Ok, Err, IsTrue}
+use Rattle.std.specs.Prelude.{◌==◌, ◌&&◌, ◌||◌, not, take, Option, Some, None, Result, Ok, Err, IsTrue}
 use Rattle.std.specs.Option.{option_map_or}
 use Rattle.std.specs.List.{list_all}
 use Rattle.std.specs.Bool.{Decides}
 use Rattle.std.specs.Cmp.Lexicographic.{pointwise}
 use Rattle.std.specs.Str.{bytes_eq}
-use Rattle.std.proofs.lemmas.Bool.{and_parts, cond-false, eqb-true, le-leb, leb-true}
+use Rattle.std.proofs.lemmas.Bool.{and_parts, cond-false, eqb-true, leb-true}
 use Rattle.std.proofs.lemmas.Bool.Decides.{same_from_decides, Decides-eqb, Decides-like}
 use Rattle.std.proofs.lemmas.List.{append-nil, length-map, length-reverse, reverse-append, take_all}
 use Rattle.std.proofs.lemmas.Slice.Eq.{bytes_eq-Decides, slice_eq-Decides}
 use Rattle.hac_model.specs.Tree.Limits.{has_short_path, names_below}
 use Rattle.hac_model.specs.Tree.Looks.{has_names, destination}
-use Rattle.hac_model.specs.Tree.{ancestors, child, entry_at, extends, is_directory_at, is_path_short, lineage, path_of}
+use Rattle.hac_model.specs.Tree.{ancestors, child, entry_at, extends, is_directory_at, lineage, path_of}
 use Rattle.hac_model.specs.Tree.Valid.{IsLayout, is_in_place}
 use Rattle.hac_model.specs.declared.limits.TheConstants.{PATH_LIMIT}
 use Rattle.hac_model.specs.declared.places.Place.{Place}
@@ -24,6 +24,7 @@ use Rattle.hac_model.specs.declared.states.State.{State}
 use Rattle.hac_model.proofs.LimitLemmas.{IsWithinLimits, limits-within}
 use Rattle.hac_model.proofs.TreeLemmas.{Lives, child-own, directory-lives, entry_at-all, entry_at-low, entry_at-number, place-directory}
 use Rattle.hac_model.proofs.Walks.{destination-walk, walk}
+use Rattle.hac_model.proofs.BoolLemmas.{or-true}
 
 -- what an entry leads to, or none
 abbrev pub ancestors_by : ℕ → List Entry → Option Entry → List Entry
@@ -72,10 +73,6 @@ path-names s n = refl
 pub length-path : (s : State) (n : ℕ) → length (path_of s n) ≡ length (lineage s.entries n)
 length-path s n = ap length (path-names s n) ∙ length-reverse (map (λ (e : Entry). e.name) (lineage s.entries n)) ∙ length-map (lineage s.entries n) (λ (e : Entry). e.name)
 
-pub short-is : (es : List Entry) (n : ℕ) → is_path_short es n ≡ nat_le (length (lineage es n)) limit
-unfolding is_path_short limit
-short-is es n = refl
-
 -- the root has no entry
 pub root-none : (s : State) → IsLayout s → entry_at s.entries 0 ≡ None
 root-none s h = entry_at-low 0 s.entries s.next 0 h.numbers (omega arith)
@@ -104,16 +101,7 @@ few-ancestors s n h (inr found) =
     let same : length (lineage s.entries found.0.number) ≡ length (lineage s.entries n) = ap (λ (k : ℕ). length (lineage s.entries k)) (entry_at-number s.entries n found.0 found.1) in
     omega (arith, most, same)
 
--- the path of what lives is short
-pub path-short : (s : State) (n : ℕ) → IsLayout s → Lives s.entries n → is_path_short s.entries n ≡ true
-path-short s n h lives = short-is s.entries n ∙ le-leb (length (lineage s.entries n)) limit (few-ancestors s n h lives)
-
--- and has at most as many names as a path may have
-pub path_of-few : (s : State) (n : ℕ) → IsLayout s → Lives s.entries n → length (path_of s n) ≤ PATH_LIMIT
-unfolding limit
-path_of-few s n h lives = subst (λ (k : ℕ). k ≤ PATH_LIMIT) (sym (length-path s n)) (few-ancestors s n h lives)
-
--- so do those of what is in it, where it is a mount
+-- the path of what lives has at most as many names as a path may have; so have those of what is in it, where it is a mount
 pub path_of-room : (s : State) (n : ℕ) (e : Entry) → IsLayout s → entry_at s.entries n ≡ Some e → length (path_of s n) + names_below e.body ≤ PATH_LIMIT
 path_of-room s n e h found =
     let most : length (lineage s.entries e.number) + names_below e.body ≤ PATH_LIMIT = leb-true (length (lineage s.entries e.number) + names_below e.body) PATH_LIMIT (path-fits s n e h found) in
@@ -272,10 +260,6 @@ rises-extends s zero n d h lives (e, found, here) =
     extends-parent s n d e h lives found ∙ ap (λ (b : Bool). b || extends (path_of s e.parent) (path_of s d)) (eq-eqb e.parent d here)
 rises-extends s (suc steps) n d h lives (e, found, more) =
     extends-parent s n d e h lives found ∙ ap (λ (b : Bool). e.parent == d || b) (rises-extends s steps e.parent d h lives more) ∙ or-true (e.parent == d)
-  where
-    or-true : (b : Bool) → (b || true) ≡ true
-    or-true true = refl
-    or-true false = refl
 
 -- and only there
 pub extends-rises : (s : State) (n d : ℕ) → IsLayout s → Lives s.entries n → Lives s.entries d → extends (path_of s n) (path_of s d) ≡ true → (steps : ℕ) × Rises s.entries (suc steps) n d

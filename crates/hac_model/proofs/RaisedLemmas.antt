@@ -1,8 +1,8 @@
 -- A valid state stays valid in a store of version 2, where each limit is at least as great, and its links stay.
 use Rattle.std.proofs.Common.{◌≡◌, ℕ, zero, suc, true, refl, ap, arith}
-use Rattle.std.specs.Prelude.{nat_le, length}
+use Rattle.std.specs.Prelude.{nat_le, length, None}
 use Rattle.std.proofs.lemmas.Bool.Decides.{nat_tests}
-use Rattle.hac_model.specs.Tree.Limits.{semantic_count}
+use Rattle.hac_model.specs.Tree.Limits.{passed_limit, semantic_count}
 use Rattle.hac_model.specs.Tree.Links.{links, round, rounds}
 use Rattle.hac_model.specs.Tree.{path_of, raised}
 use Rattle.hac_model.specs.Tree.Valid.{AsksWell, IsLayout, IsValid, KeepsWell}
@@ -21,26 +21,29 @@ sessions-any : (version : Version) (n : ℕ) → nat_le n (sessions_limit versio
 sessions-any One n few = grind (arith, nat_tests, few)
 sessions-any Two n few = few
 
+pub raised-limits : (s : State) → passed_limit s ≡ None → passed_limit (raised s) ≡ None
+raised-limits s none =
+    let within : IsWithinLimits s = limits-within s none in
+    limits-none (raised s) (record {
+      texts = within.texts;
+      dirs = most-dirs s within;
+      semantics = within.semantics;
+      mounts = most-mounts s within;
+      symlinks = most-symlinks s within;
+      paths = within.paths;
+      items = within.items;
+      numbers = most-numbers s within;
+    })
+
 pub raised-layout : (s : State) → IsLayout s → IsLayout (raised s)
-raised-layout s h =
-    let within : IsWithinLimits s = limits-within s h.limits in
-    record {
-      numbers = h.numbers;
-      names = h.names;
-      places = h.places;
-      differ = h.differ;
-      bodies = h.bodies;
-      limits = limits-none (raised s) (record {
-        texts = within.texts;
-        dirs = most-dirs s within;
-        semantics = within.semantics;
-        mounts = most-mounts s within;
-        symlinks = most-symlinks s within;
-        paths = within.paths;
-        items = within.items;
-        numbers = most-numbers s within;
-      });
-    }
+raised-layout s h = record {
+  numbers = h.numbers;
+  names = h.names;
+  places = h.places;
+  differ = h.differ;
+  bodies = h.bodies;
+  limits = raised-limits s h.limits;
+}
 
 pub raised-valid : (s : State) → IsValid s → IsValid (raised s)
 raised-valid s h = record {

@@ -7,11 +7,11 @@ use Rattle.hac_model.proofs.GainLemmas.{directory-told}
 use Rattle.hac_model.proofs.LayoutLemmas.{sumount-parts}
 use Rattle.hac_model.proofs.MountAskLemmas.{mounted-sessions, synced-sessions, unmounted-sessions}
 use Rattle.std.proofs.Common.{◌≡◌, ℕ, Bool, true, false, List, [], ◌∷◌, ◌++◌, cond, filter, refl, sym, subst, ◌∙◌, append-nil}
-use Rattle.std.specs.Prelude.{◌==◌, ◌&&◌, ◌||◌, not, if◌then◌else◌, Some, None, IsTrue}
+use Rattle.std.specs.Prelude.{◌==◌, ◌&&◌, not, if◌then◌else◌, Some, None, IsTrue}
 use Rattle.std.specs.List.{AllByRecursion}
 use Rattle.std.specs.Option.{option_map_or}
 use Rattle.std.specs.Str.{bytes_eq}
-use Rattle.std.proofs.lemmas.Bool.{and_parts, eqb-false}
+use Rattle.std.proofs.lemmas.Bool.{and_parts, eqb-false, or_parts}
 use Rattle.hac_model.specs.Tree.Events.{accepted, apply, asking, changed_at, edited, forgetting, indexed, is_possible, marked, next_dirty, plain_body, reseated, rewritten}
 use Rattle.hac_model.specs.Tree.Limits.{passed_limit}
 use Rattle.hac_model.specs.Tree.Sessions.{are_few, is_busy, sessions_after, sessions_with, stands_in}
@@ -27,7 +27,8 @@ use Rattle.hac_model.proofs.AskLemmas.{added-directories, edited-directories, le
 use Rattle.hac_model.proofs.ChangeLemmas.{all-append, all-filter, directory-changed, directory-kept, is_kept}
 use Rattle.hac_model.proofs.MapLemmas.{directory-mapped}
 use Rattle.hac_model.proofs.StayLemmas.{sessions-stay, sessions-there}
-use Rattle.hac_model.proofs.ValidLemmas.{accepted-parts, asking-kind, forgetting-measures, indexed-kind, marked-kind, plain-kind, rewritten-kind, rmdir-parts}
+use Rattle.hac_model.proofs.ValidLemmas.{accepted-parts, rmdir-parts}
+use Rattle.hac_model.proofs.KindLemmas.{role-forgetting, role-asking, role-indexed, role-marked, role-plain, role-rewritten, keeps-directory}
 
 -- only an event of a session changes sessions
 pub sessions-follow : (s : State) (event : Event) → (apply s event).sessions ≡ sessions_after event s.sessions
@@ -48,12 +49,8 @@ not-there : (s : State) (dir : ℕ) (sessions : List Session) → is_busy sessio
     AllByRecursion (λ session. IsTrue (is_directory_at (filter (is_kept dir) s.entries) session.dir)) sessions
 not-there s dir [] idle there = tt
 not-there s dir (session ∷ sessions) idle there =
-    let parts = neither (session.dir == dir) (is_busy sessions dir) idle in
+    let parts = or_parts (session.dir == dir) (is_busy sessions dir) idle in
     (directory-kept dir s.entries session.dir (λ same. eqb-false session.dir dir parts.0 (sym same)) ∙ there.0, not-there s dir sessions parts.1 there.1)
-  where
-    neither : (a b : Bool) → (a || b) ≡ false → (a ≡ false) × (b ≡ false)
-    neither true b h = absurd cc
-    neither false b h = (refl, h)
 
 -- A session that stands in another directory.
 
@@ -119,20 +116,20 @@ moved s session dir h named there few = record {
 pub apply-sessions : (s : State) (event : Event) → IsValid s → IsTrue (accepted s event) → AreSessions (apply s event)
 apply-sessions s (Mkdir dir name) h ok = sessions-stay s (apply s (Mkdir dir name)) refl refl h.sessions (added-directories s dir name Dir)
 apply-sessions s (NewFile dir name text) h ok = sessions-stay s (apply s (NewFile dir name text)) refl refl h.sessions (added-directories s dir name (File text true None))
-apply-sessions s (Rewrite file text) h ok = sessions-stay s (apply s (Rewrite file text)) refl refl h.sessions (edited-directories s file (rewritten text) (rewritten-kind text))
+apply-sessions s (Rewrite file text) h ok = sessions-stay s (apply s (Rewrite file text)) refl refl h.sessions (edited-directories s file (rewritten text) (keeps-directory (rewritten text) (role-rewritten text)))
 apply-sessions s (Ln dir name target) h ok = sessions-stay s (apply s (Ln dir name target)) refl refl h.sessions (added-directories s dir name (Symlink target))
 apply-sessions s (Smkdir dir name query told) h ok =
     sessions-stay s (apply s (Smkdir dir name query told)) refl refl h.sessions (λ d there. added-directories (with_told query told s) dir name (Semantic query [] []) d (directory-told s query told d ∙ there))
 apply-sessions s (Setq dir query told) h ok =
-    sessions-stay s (apply s (Setq dir query told)) refl refl h.sessions (λ d there. edited-directories (with_told query told s) dir (asking query) (asking-kind query) d (directory-told s query told d ∙ there))
-apply-sessions s (Unq dir) h ok = sessions-stay s (apply s (Unq dir)) refl refl h.sessions (edited-directories s dir plain_body plain-kind)
-apply-sessions s (Mark mark) h ok = sessions-stay s (apply s (Mark mark)) refl refl h.sessions (edited-directories s mark.dir (marked mark.item mark.kind) (marked-kind mark.item mark.kind))
+    sessions-stay s (apply s (Setq dir query told)) refl refl h.sessions (λ d there. edited-directories (with_told query told s) dir (asking query) (keeps-directory (asking query) (role-asking query)) d (directory-told s query told d ∙ there))
+apply-sessions s (Unq dir) h ok = sessions-stay s (apply s (Unq dir)) refl refl h.sessions (edited-directories s dir plain_body (keeps-directory plain_body role-plain))
+apply-sessions s (Mark mark) h ok = sessions-stay s (apply s (Mark mark)) refl refl h.sessions (edited-directories s mark.dir (marked mark.item mark.kind) (keeps-directory (marked mark.item mark.kind) (role-marked mark.item mark.kind)))
 apply-sessions s (Mv entry dir name) h ok =
     sessions-stay s (apply s (Mv entry dir name)) refl refl h.sessions (λ d there. directory-changed entry (reseated dir name) s.entries d (λ e. refl) (λ e. refl) ∙ there)
 apply-sessions s (Rm file) h ok =
     let possible = (accepted-parts (is_possible s (Rm file)) (passed_limit (apply s (Rm file))) ok).0 in
     sessions-stay s (apply s (Rm file)) refl refl h.sessions (λ d there.
-    directory-mapped (forgetting file) (filter (is_kept file) s.entries) d (forgetting-measures file).kind
+    directory-mapped (forgetting file) (filter (is_kept file) s.entries) d (keeps-directory (forgetting file) (role-forgetting file))
     ∙ directory-kept file s.entries d (leaf-no_directory s file d h.layout possible there) ∙ there)
 apply-sessions s (Rmdir dir) h ok =
     let possible = (accepted-parts (is_possible s (Rmdir dir)) (passed_limit (apply s (Rmdir dir))) ok).0 in
@@ -140,7 +137,7 @@ apply-sessions s (Rmdir dir) h ok =
 apply-sessions s Step h ok =
     elim (next_dirty s.entries) as (λ o. AreSessions (option_map_or (λ file. changed_at s file (edited indexed)) o s)) [
       | None ↦ h.sessions
-      | Some file ↦ sessions-stay s (changed_at s file (edited indexed)) refl refl h.sessions (edited-directories s file indexed indexed-kind)
+      | Some file ↦ sessions-stay s (changed_at s file (edited indexed)) refl refl h.sessions (edited-directories s file indexed (keeps-directory indexed role-indexed))
     ]
 apply-sessions s (Cd session dir) h ok =
     let parts = cd-parts s session dir (accepted-parts (is_possible s (Cd session dir)) (passed_limit (apply s (Cd session dir))) ok).0 in

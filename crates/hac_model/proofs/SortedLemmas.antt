@@ -9,6 +9,7 @@ use Rattle.std.proofs.lemmas.List.Sorted.{searched}
 use Rattle.hac_model.specs.Tree.Links.{has}
 use Rattle.hac_model.specs.Tree.Valid.{RiseFrom}
 use Rattle.std.proofs.lemmas.Bool.Decides.{nat_tests}
+use Rattle.hac_model.proofs.BoolLemmas.{or-true}
 
 -- Lists of anything.
 
@@ -61,10 +62,6 @@ rise-order bound (x ∷ xs) h zero zero le inside = omega arith
 rise-order bound (x ∷ xs) h zero (suc j) le inside = omega (arith, rise-above (x + 1) xs j h.1 (omega arith))
 rise-order bound (x ∷ xs) h (suc i) zero le inside = absurd (omega arith)
 rise-order bound (x ∷ xs) h (suc i) (suc j) le inside = rise-order (x + 1) xs h.1 i j (omega arith) (omega arith)
-
-or-true : (a : Bool) → (a || true) ≡ true
-or-true true = refl
-or-true false = refl
 
 has-at : (xs : List ℕ) (i x : ℕ) → i < length xs → get_or xs i 0 ≡ x → has xs x ≡ true
 has-at [] i x inside is = absurd (omega arith)

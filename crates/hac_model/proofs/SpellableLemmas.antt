@@ -23,7 +23,7 @@ use Rattle.hac_model.specs.Tree.Listing.{is_before}
 use Rattle.hac_model.specs.Tree.Mounting.{are_documents, are_documents_few, are_told, do_names_rise, do_rise_from, is_document_of, is_told}
 use Rattle.hac_model.specs.Tree.Mounts.{terms_in_order, is_kept, put_term, terms_in, terms_in_use, terms_to_ask}
 use Rattle.hac_model.specs.Tree.Names.{is_name, is_name_byte}
-use Rattle.hac_model.specs.Tree.{is_document, is_document_at, is_mount}
+use Rattle.hac_model.specs.Tree.{is_queried, is_document, is_document_at, is_mount}
 use Rattle.hac_model.specs.Tree.Valid.{AsksWell, IsLayout, IsValid, RiseFrom}
 use Rattle.hac_model.specs.declared.limits.TheConstants.{MOUNTS_LIMIT, NAME_LIMIT, NESTING_LIMIT, QUERY_LIMIT, SEMANTICS_LIMIT, TERMS_LIMIT}
 use Rattle.hac_model.specs.declared.states.Body.{Body}
@@ -32,7 +32,7 @@ use Rattle.hac_model.specs.declared.states.Entry.{Entry}
 use Rattle.hac_model.specs.declared.states.State.{State}
 use Rattle.hac_model.specs.declared.terms.Term.{Term}
 use Rattle.hac_model.proofs.ChangeLemmas.{all-joined, all-weaker}
-use Rattle.hac_model.proofs.CountLemmas.{is_queried, measured-cons, one_if}
+use Rattle.hac_model.proofs.CountLemmas.{measured-cons, one_if}
 use Rattle.hac_model.proofs.LimitLemmas.{IsWithinLimits, limits-within, most-mounts}
 use Rattle.hac_model.proofs.MountKeptLemmas.{rise-told}
 use Rattle.hac_model.proofs.MountLayoutLemmas.{all-tested, documents-parts}

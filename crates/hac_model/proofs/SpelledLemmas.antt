@@ -1,6 +1,6 @@
 -- Each event that can happen to a valid state, and is stored, has a spelling: its numbers have their bytes, its names, texts and
 -- queries are no longer than such may be, and what it tells of a space's documents is no more than four bytes can count.
-use Rattle.std.proofs.Common.{inl, inr, ◌≡◌, ℕ, zero, suc, ◌<◌, Bool, true, false, List, [], ◌∷◌, ◌++◌, length, refl, ap, sym, ◌∙◌, arith}
+use Rattle.std.proofs.Common.{inl, inr, ◌≡◌, ℕ, zero, suc, ◌<◌, Bool, true, false, List, [], ◌∷◌, ◌++◌, length, refl, ap, subst, sym, ◌∙◌, arith}
 use Rattle.std.specs.Prelude.{not, option_and_then, ◌&&◌, ◌||◌, if◌then◌else◌, nat_le, Option, Some, None, IsTrue, is_some, is_none}
 use Rattle.std.proofs.lemmas.Bool.{and_from, and_parts, or_cases}
 use Rattle.std.proofs.lemmas.List.Folds.{list_all-append}
@@ -14,14 +14,18 @@ use Rattle.hac_model.specs.Tree.Asking.{with_told}
 use Rattle.hac_model.specs.Tree.Limits.{are_answers_few, is_text, passed_limit, semantic_count}
 use Rattle.hac_model.specs.Tree.Links.{DirLinks, can_be_added, has, is_item, is_permanent, is_semantic, links, parent_of, query_at, round, rounds}
 use Rattle.hac_model.specs.Script.PathWords.{is_target}
-use Rattle.hac_model.specs.Tree.Mounting.{answers_to}
+use Rattle.hac_model.specs.Script.SpaceNames.{is_space_name}
+use Rattle.hac_model.specs.Tree.Mounting.{answers_to, are_documents, are_documents_few, are_told, mounted, synced}
 use Rattle.hac_model.specs.Tree.Mounts.{terms_to_ask}
 use Rattle.hac_model.specs.Payload.Payloads.{docs_field, is_spellable, mark_field, name_field, space_field, target_field, text_field, told_field}
 use Rattle.hac_model.specs.Query.Queries.{is_query}
 use Rattle.hac_model.specs.Payload.QueryFields.{are_nums, query_field}
-use Rattle.hac_model.specs.Tree.Sessions.{is_busy, is_stored, sessionless}
-use Rattle.hac_model.specs.Tree.{body_at, entry_at, is_directory, is_directory_at, is_file, is_file_at, is_leaf, path_of, query_in, is_linkable, is_mount}
+use Rattle.hac_model.specs.Tree.Sessions.{is_busy, is_stored, sessionless, stored}
+use Rattle.hac_model.specs.Tree.{body_at, entry_at, is_directory, is_directory_at, is_file, is_file_at, is_leaf, is_mount_at, path_of, query_in, is_linkable, is_mount}
 use Rattle.hac_model.specs.Tree.Valid.{AsksWell, IsLayout, IsValid, KeepsWell}
+use Rattle.hac_model.specs.declared.versions.Version.{Version}
+use Rattle.hac_model.specs.declared.versions.Version.TheVariants.{Two}
+use Rattle.hac_model.proofs.RaisedLemmas.{raised-limits}
 use Rattle.hac_model.specs.declared.events.Event.{Event}
 use Rattle.hac_model.specs.declared.events.Event.TheVariants.{Mkdir, NewFile, Rewrite, Ln, Mv, Rm, Rmdir, Smkdir, Setq, Unq, Mark, Smount, Ssync, Sumount, Step, Cd}
 use Rattle.hac_model.specs.declared.limits.LimitWord.{LimitWord}
@@ -39,7 +43,7 @@ use Rattle.hac_model.proofs.SpellableLemmas.{docs-fit, name-fits, small-fits, sp
 use Rattle.hac_model.proofs.TreeLemmas.{Lives, directory-lives, entry_at-below}
 use Rattle.hac_model.proofs.ValidLemmas.{accepted-parts, free-parts, mark-parts, move-parts, rmdir-parts, setq-parts, smkdir-parts}
 use Rattle.hac_model.proofs.KeepingLemmas.{keeps-stays}
-use Rattle.hac_model.proofs.VersionLemmas.{none-few, root-fits}
+use Rattle.hac_model.proofs.VersionLemmas.{apply-version, few-any, none-few, root-fits}
 
 module _ (s : State) (h : IsValid s) where
   -- the numbers of a valid state have their bytes
@@ -197,54 +201,75 @@ sessionless-valid s h = record {
   sessions = record { names = tt; differ = tt; there = tt; elsewhere = tt; few = none-few s.version };
 }
 
-module _ (s : State) where
-  reaching-stored : (dir : ℕ) (others : List ℕ) → first_reaching (sessionless s) dir others ≡ first_reaching s dir others
+-- a state without its sessions, in a store of a version
+abbrev kept_in : Version → State → State
+kept_in version s = record s { version = version; sessions = [] }
+
+-- what a store of one version may hold, one of another may hold too
+record Allows (one two : Version) : Type 0 where
+  docs : (documents : List (List ℕ)) → are_documents_few one documents ≡ true → are_documents_few two documents ≡ true
+  limits : (s : State) → s.version ≡ one → passed_limit s ≡ None → passed_limit (kept_in two s) ≡ None
+
+allows-same : (version : Version) → Allows version version
+unfolding passed_limit
+allows-same version = record {
+  docs = λ documents few. few;
+  limits = λ s is passed. subst (λ (v : Version). passed_limit (kept_in v s) ≡ None) is passed;
+}
+
+allows-two : (version : Version) → Allows version Two
+unfolding passed_limit
+allows-two version = record {
+  docs = λ documents few. few-any version (length documents) few;
+  limits = λ s is passed. raised-limits s passed;
+}
+
+module _ (s : State) (version : Version) (allows : Allows s.version version) where
+  reaching-stored : (dir : ℕ) (others : List ℕ) → first_reaching (kept_in version s) dir others ≡ first_reaching s dir others
   unfolding first_reaching reaches
   reaching-stored dir [] = refl
   reaching-stored dir (other ∷ others) = ap (λ (o : Option ℕ). if reaches s other dir then Some other else o) (reaching-stored dir others)
 
-  moving-stored : (entry dir : ℕ) (o : Option (Formula ℕ)) → option_and_then (cycle_over (sessionless s) entry dir) o ≡ option_and_then (cycle_over s entry dir) o
+  moving-stored : (entry dir : ℕ) (o : Option (Formula ℕ)) → option_and_then (cycle_over (kept_in version s) entry dir) o ≡ option_and_then (cycle_over s entry dir) o
   moving-stored entry dir None = refl
   moving-stored entry dir (Some query) = reaching-stored entry (dir ∷ named_in query)
 
-  linking-stored : (dir item : ℕ) (kind : Kind) → cycle_of_mark (sessionless s) dir item kind ≡ cycle_of_mark s dir item kind
+  linking-stored : (dir item : ℕ) (kind : Kind) → cycle_of_mark (kept_in version s) dir item kind ≡ cycle_of_mark s dir item kind
   linking-stored dir item Permanent = ap (λ (o : Option ℕ). if is_directory_at s.entries item then o else None) (reaching-stored dir (item ∷ []))
   linking-stored dir item Prohibited = refl
   linking-stored dir item Unlinked = refl
   linking-stored dir item Transient = refl
 
-  rounds-stored : (n : ℕ) → rounds n (sessionless s) ≡ rounds n s
+  rounds-stored : (n : ℕ) → rounds n (kept_in version s) ≡ rounds n s
   unfolding path_of
   rounds-stored zero = refl
   rounds-stored (suc n) = ap (round s) (rounds-stored n)
 
-  links-stored : links (sessionless s) ≡ links s
+  links-stored : links (kept_in version s) ≡ links s
   unfolding links
   links-stored = rounds-stored (semantic_count s.entries)
 
-  marking-stored : (dir item : ℕ) (kind : Kind) → may_mark (sessionless s) dir item kind ≡ may_mark s dir item kind
+  marking-stored : (dir item : ℕ) (kind : Kind) → may_mark (kept_in version s) dir item kind ≡ may_mark s dir item kind
   marking-stored dir item Permanent = refl
   marking-stored dir item Prohibited = ap (λ (known : ℕ → DirLinks). is_permanent s dir item || has (known dir).found item) links-stored
   marking-stored dir item Unlinked = refl
   marking-stored dir item Transient = refl
 
-  placed-stored : (e : Event) → is_placed (sessionless s) e ≡ is_placed s e
+  -- what refers to what is there does so in such a store, where documents aren't too many for it
+  placed-stored : (e : Event) → is_placed s e ≡ true → is_placed (kept_in version s) e ≡ true
   unfolding path_of
-  placed-stored (Mkdir dir name) = refl
-  placed-stored (NewFile dir name text) = refl
-  placed-stored (Rewrite file text) = refl
-  placed-stored (Smkdir dir name query told) = refl
-  placed-stored (Setq dir query told) = refl
-  placed-stored (Unq dir) = refl
-  placed-stored (Mark mark) = refl
-  placed-stored (Mv entry dir name) = refl
-  placed-stored (Rm entry) = refl
-  placed-stored (Rmdir dir) = refl
-  placed-stored Step = refl
-  placed-stored other = refl
+  placed-stored (Smount dir name space documents told) placed =
+      let new = mounted s dir name space (answers_to (terms_to_ask s.entries) told) documents in
+      let parts = and_parts (is_free s dir name && is_space_name space && are_documents documents && are_told new s.next (terms_to_ask s.entries) told) (are_documents_few s.version documents) placed in
+      and_from (is_free s dir name && is_space_name space && are_documents documents && are_told new s.next (terms_to_ask s.entries) told) (are_documents_few version documents) parts.0 (allows.docs documents parts.1)
+  placed-stored (Ssync mount documents told) placed =
+      let new = synced s mount (answers_to (terms_to_ask s.entries) told) documents in
+      let parts = and_parts (is_mount_at s.entries mount && are_documents documents && are_told new mount (terms_to_ask s.entries) told) (are_documents_few s.version documents) placed in
+      and_from (is_mount_at s.entries mount && are_documents documents && are_told new mount (terms_to_ask s.entries) told) (are_documents_few version documents) parts.0 (allows.docs documents parts.1)
+  placed-stored other placed = placed
 
   -- what is clear with sessions is clear without
-  clear-stored : (e : Event) → is_stored e ≡ true → is_clear s e ≡ true → is_clear (sessionless s) e ≡ true
+  clear-stored : (e : Event) → is_stored e ≡ true → is_clear s e ≡ true → is_clear (kept_in version s) e ≡ true
   clear-stored (Smkdir dir name query told) kept clear = clear
   clear-stored (Setq dir query told) kept clear = ap (λ (o : Option ℕ). is_none o && are_answers_few (with_told query told s).entries) (reaching-stored dir (parent_of s dir ∷ named_in query)) ∙ clear
   clear-stored (Mark mark) kept clear = (λ i. marking-stored mark.dir mark.item mark.kind i && is_none (linking-stored mark.dir mark.item mark.kind i)) ∙ clear
@@ -256,23 +281,36 @@ module _ (s : State) where
   clear-stored (Cd session dir) kept clear = absurd cc
   clear-stored other kept clear = refl
 
-  passed-stored : (e : Event) → is_stored e ≡ true → passed_limit (apply (sessionless s) e) ≡ passed_limit (apply s e)
-  unfolding passed_limit
-  passed-stored Step kept = elim (next_dirty s.entries) as (λ o. passed_limit (option_map_or (λ file. changed_at (sessionless s) file (edited indexed)) o (sessionless s)) ≡ passed_limit (option_map_or (λ file. changed_at s file (edited indexed)) o s)) [ None ↦ refl | Some file ↦ refl ]
-  passed-stored (Cd session dir) kept = absurd cc
-  passed-stored other kept = refl
+  passed-stored : (e : Event) → is_stored e ≡ true → passed_limit (apply s e) ≡ None → passed_limit (apply (kept_in version s) e) ≡ None
+  passed-stored Step kept passed = stepped (next_dirty s.entries) passed
+    where
+      stepped : (o : Option ℕ) → passed_limit (option_map_or (λ file. changed_at s file (edited indexed)) o s) ≡ None
+          → passed_limit (option_map_or (λ file. changed_at (kept_in version s) file (edited indexed)) o (kept_in version s)) ≡ None
+      stepped None passed = allows.limits s refl passed
+      stepped (Some file) passed = allows.limits (changed_at s file (edited indexed)) refl passed
+  passed-stored (Cd session dir) kept passed = absurd cc
+  passed-stored other kept passed = allows.limits (apply s other) refl passed
 
-  applied-stored : (e : Event) → is_stored e ≡ true → sessionless (apply s e) ≡ apply (sessionless s) e
-  applied-stored Step kept = elim (next_dirty s.entries) as (λ o. sessionless (option_map_or (λ file. changed_at s file (edited indexed)) o s) ≡ option_map_or (λ file. changed_at (sessionless s) file (edited indexed)) o (sessionless s)) [ None ↦ refl | Some file ↦ refl ]
+  applied-stored : (e : Event) → is_stored e ≡ true → kept_in version (apply s e) ≡ apply (kept_in version s) e
+  applied-stored Step kept = elim (next_dirty s.entries) as (λ o. kept_in version (option_map_or (λ file. changed_at s file (edited indexed)) o s) ≡ option_map_or (λ file. changed_at (kept_in version s) file (edited indexed)) o (kept_in version s)) [ None ↦ refl | Some file ↦ refl ]
   applied-stored (Cd session dir) kept = absurd cc
   applied-stored other kept = refl
 
+  happens-stored : (e : Event) → IsTrue (is_stored e) → IsTrue (accepted s e) → IsTrue (accepted (kept_in version s) e)
+  happens-stored e kept is =
+      let parts = accepted-parts (is_possible s e) (passed_limit (apply s e)) is in
+      let possible = and_parts (is_clear s e) (is_placed s e) parts.0 in
+      and_from (is_possible (kept_in version s) e) (is_none (passed_limit (apply (kept_in version s) e)))
+      (and_from (is_clear (kept_in version s) e) (is_placed (kept_in version s) e) (clear-stored e kept possible.0) (placed-stored e possible.1))
+      (ap (λ (o : Option LimitWord). is_none o) (passed-stored e kept parts.1))
+
+-- in a store of the same version
 pub not-stored : (s : State) (e : Event) → IsValid s → IsTrue (is_stored e) → IsTrue (accepted s e) → IsTrue (accepted (sessionless s) e) × (sessionless (apply s e) ≡ apply (sessionless s) e)
-not-stored s e h kept is =
-    let parts = accepted-parts (is_possible s e) (passed_limit (apply s e)) is in
-    let possible = and_parts (is_clear s e) (is_placed s e) parts.0 in (
-      and_from (is_possible (sessionless s) e) (is_none (passed_limit (apply (sessionless s) e)))
-          (and_from (is_clear (sessionless s) e) (is_placed (sessionless s) e) (clear-stored s e kept possible.0) (placed-stored s e ∙ possible.1))
-          (ap (λ (o : Option LimitWord). is_none o) (passed-stored s e kept ∙ parts.1)),
-      applied-stored s e kept,
-    )
+not-stored s e h kept is = (
+  happens-stored s s.version (allows-same s.version) e kept is,
+  subst (λ (v : Version). kept_in v (apply s e) ≡ apply (sessionless s) e) (sym (apply-version s e)) (applied-stored s s.version (allows-same s.version) e kept),
+)
+
+-- and in one of version 2
+pub stored-follows : (s : State) (e : Event) → IsTrue (is_stored e) → IsTrue (accepted s e) → IsTrue (accepted (stored s) e) × (stored (apply s e) ≡ apply (stored s) e)
+stored-follows s e kept is = (happens-stored s Two (allows-two s.version) e kept is, applied-stored s Two (allows-two s.version) e kept)

@@ -18,7 +18,7 @@ use Rattle.hac_model.specs.Run.Checkpoints.{state_text}
 use Rattle.hac_model.specs.Tree.Limits.{answers_kept, documents_kept, file_bytes, item_count}
 use Rattle.hac_model.specs.Tree.Links.{can_be_added, is_item}
 use Rattle.hac_model.specs.Tree.Valid.{AsksWell, IsValid}
-use Rattle.hac_model.specs.Tree.{entry_at, is_directory_at, is_document, is_linkable, is_mount, is_symlink, permanent_in, prohibited_in, raised}
+use Rattle.hac_model.specs.Tree.{is_queried, entry_at, is_directory_at, is_document, is_linkable, is_mount, is_symlink, permanent_in, prohibited_in, raised}
 use Rattle.hac_model.specs.Versions.{docs_limit}
 use Rattle.hac_model.specs.declared.limits.TheConstants.{ANSWERS_LIMIT, ITEMS_LIMIT, MOUNTS_LIMIT, PAIRS_LIMIT, QUERY_LIMIT, SEMANTICS_LIMIT, SYMLINKS_LIMIT, TEXTS_LIMIT}
 use Rattle.hac_model.specs.declared.snapshots.Document as listed
@@ -32,7 +32,7 @@ use Rattle.hac_model.specs.declared.terms.Term.{Term}
 use Rattle.hac_model.specs.declared.terms.Term.TheVariants.{Word, Prefix}
 use Rattle.hac_model.specs.declared.versions.Version.{Version}
 use Rattle.hac_model.proofs.ChangeLemmas.{all-weaker}
-use Rattle.hac_model.proofs.CountLemmas.{is_queried, measured, measured-cons, one_if}
+use Rattle.hac_model.proofs.CountLemmas.{measured, measured-cons, one_if}
 use Rattle.hac_model.proofs.LimitLemmas.{limits-within, most-mounts, most-symlinks}
 use Rattle.hac_model.proofs.LiveLemmas.{all-few, live-few, tested-entry}
 use Rattle.hac_model.proofs.RaisedLemmas.{raised-valid}

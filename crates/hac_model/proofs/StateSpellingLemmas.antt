@@ -339,11 +339,7 @@ module _ (s : State) (h : IsValid s) where
     where
       mount : (n : ℕ) (body : Body) → KeepsWell s n body → is_mount body ≡ true → (documents_field s.version).fits (map listed_document (documents_at n)) ≡ true
       mount n (Mount space answers) keeps is = documents-fit n keeps.few
-      mount n (File text dirty shown) keeps is = absurd cc
-      mount n Dir keeps is = absurd cc
-      mount n (Symlink target) keeps is = absurd cc
-      mount n (Semantic query permanent prohibited) keeps is = absurd cc
-      mount n Document keeps is = absurd cc
+      mount n other keeps is = absurd cc
 
       fit : (b : Bool) → is_mount e.body ≡ b → (documents_field s.version).fits (map listed_document (documents_at e.number)) ≡ true
       fit true is = mount e.number e.body (entry_at-all (λ e. KeepsWell s e.number e.body) s.entries e.number e h.answers found) is

@@ -35,17 +35,15 @@ letters-even : (x y : List ℕ) → is_lt (slice_cmp nat_cmp x y) ≡ false → 
 letters-even x y h k = (bytes_eq-Decides x y).0 (sym (is_eq-slice_cmp x y) ∙ even (slice_cmp nat_cmp x y) h (ap is_lt (sym (nat_list_cmp_total.antisymm y x)) ∙ k))
   where
     even : (o : Ordering) → is_lt o ≡ false → is_lt (ordering_reverse o) ≡ false → is_eq o ≡ true
-    even Less h k = absurd cc
     even Equal h k = refl
-    even Greater h k = absurd cc
+    even other h k = absurd cc
 
 mixed-never : (x y : List ℕ) → is_le (slice_cmp nat_cmp x y) ≡ false → is_lt (slice_cmp nat_cmp y x) ≡ false → ⊥
 mixed-never x y h k = never (slice_cmp nat_cmp x y) h (ap is_lt (sym (nat_list_cmp_total.antisymm y x)) ∙ k)
   where
     never : (o : Ordering) → is_le o ≡ false → is_lt (ordering_reverse o) ≡ false → ⊥
     never Less h k = absurd cc
-    never Equal h k = absurd cc
-    never Greater h k = absurd cc
+    never other h k = absurd cc
 
 pub terms-even : (a b : Term) → is_term_before a b ≡ false → is_term_before b a ≡ false → a ≡ b
 terms-even (Word x) (Word y) h k = ap (λ (z : List ℕ). Word z) (letters-even x y h k)
@@ -93,8 +91,7 @@ letters-le x y h = le (slice_cmp nat_cmp x y) h
   where
     le : (o : Ordering) → is_lt o ≡ true → is_le o ≡ true
     le Less h = refl
-    le Equal h = absurd cc
-    le Greater h = absurd cc
+    le other h = absurd cc
 
 pub le-then : (x y z : List ℕ) → is_le (slice_cmp nat_cmp x y) ≡ true → is_lt (slice_cmp nat_cmp y z) ≡ true → is_lt (slice_cmp nat_cmp x z) ≡ true
 le-then x y z h k = by (letters-cases x y h)

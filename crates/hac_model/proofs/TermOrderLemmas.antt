@@ -2,7 +2,7 @@
 use Rattle.std.proofs.Common.{◌≡◌, Bool, true, false, List, refl, ap, sym, ◌∙◌}
 use Rattle.std.specs.Prelude.{ℕ}
 use Rattle.std.specs.Cmp.Lexicographic.{nat_list_cmp_total, slice_cmp, texts_ties}
-use Rattle.std.specs.Ordering.{is_eq, is_le, is_lt, nat_cmp, ordering_reverse}
+use Rattle.std.specs.Ordering.{is_eq, is_lt, nat_cmp, ordering_reverse}
 use Rattle.std.specs.Str.{bytes_eq}
 use Rattle.std.specs.declared.cmp.Ordering.{Ordering}
 use Rattle.std.specs.declared.cmp.Ordering.TheVariants.{Less, Equal, Greater}
@@ -13,11 +13,6 @@ use Rattle.hac_model.proofs.TermLemmas.{term-irreflexive, term-trans}
 use Rattle.hac_model.proofs.NameOrderLemmas.{less-from}
 
 -- Letters.
-
-lt-le : (o : Ordering) → is_lt o ≡ true → is_le o ≡ true
-lt-le Less h = refl
-lt-le Equal h = absurd cc
-lt-le Greater h = absurd cc
 
 -- Terms.
 

@@ -1,16 +1,17 @@
 -- Look-ups among entries: by number, and by directory and name.
-use Rattle.std.proofs.Common.{◌≡◌, ℕ, zero, suc, ◌<◌, ◌≤◌, Bool, true, false, cond, List, [], ◌∷◌, length, get_or, subst, refl, ap, sym, ◌∙◌, arith, eq-eqb, inl, inr}
+use Rattle.std.proofs.Common.{◌≡◌, ℕ, ◌<◌, ◌≤◌, Bool, true, false, cond, List, [], ◌∷◌, subst, refl, ap, sym, ◌∙◌, arith, eq-eqb, inl, inr}
 use Rattle.std.specs.Prelude.{◌⊎◌, ◌==◌, ◌&&◌, ◌||◌, if◌then◌else◌, not, Option, Some, None, is_some}
 use Rattle.std.specs.Option.{option_map, option_map_or}
 use Rattle.std.specs.List.{AllByRecursion}
 use Rattle.std.specs.Str.{bytes_eq}
 use Rattle.std.proofs.lemmas.Bool.{and_from, and_parts, cases_lt, eqb-true, ne_eqb, or_right}
 use Rattle.std.proofs.lemmas.Slice.Eq.{bytes_eq-Decides}
-use Rattle.hac_model.specs.Tree.{body_at, child, entry_at, is_directory, is_directory_at, is_document, is_file, is_file_at, is_holder_at, is_leaf, is_leaf_at, is_linkable, is_symlink, is_made_directory, is_mount, is_mount_at, is_live}
+use Rattle.hac_model.specs.Tree.{body_at, child, entry_at, is_directory, is_directory_at, is_document, is_holder_at, is_leaf, is_leaf_at, is_linkable, is_made_directory, is_mount, is_mount_at, is_live}
 use Rattle.hac_model.specs.Tree.Valid.{NamesDiffer, NumbersRise, is_in_place}
 use Rattle.hac_model.specs.declared.states.Body.{Body}
-use Rattle.hac_model.specs.declared.states.Body.TheVariants.{File, Dir, Symlink, Semantic, Mount, Document}
+use Rattle.hac_model.specs.declared.states.Body.TheVariants.{Dir, Semantic, Mount}
 use Rattle.hac_model.specs.declared.states.Entry.{Entry}
+use Rattle.hac_model.proofs.BoolLemmas.{or-true}
 
 -- the root, or an entry
 abbrev pub Lives : List Entry → ℕ → Type 0
@@ -69,25 +70,6 @@ entry_at-all P (first ∷ es) n e h found =
       | true ↦ (λ found. let same : first ≡ e = cc in subst P same h.0)
       | false ↦ (λ found. entry_at-all P es n e h.1 found)
     ] found
-
--- each entry's number is above those that the entries have to be above
-pub number-above : (above : ℕ) (es : List Entry) (next i : ℕ) (d : Entry) → NumbersRise above es next → i < length es → above < (get_or es i d).number
-number-above above [] next i d h k = absurd (omega arith)
-number-above above (e ∷ es) next zero d h k = h.0
-number-above above (e ∷ es) next (suc i) d h k =
-    let first : above < e.number = h.0 in
-    let inside : i < length es = omega arith in
-    let behind : e.number < (get_or es i d).number = number-above e.number es next i d h.1 inside in
-    omega arith
-
--- an entry is looked up by its own number
-pub entry_at-index : (above : ℕ) (es : List Entry) (next i : ℕ) (d : Entry) → NumbersRise above es next → i < length es → entry_at es (get_or es i d).number ≡ Some (get_or es i d)
-entry_at-index above [] next i d h k = absurd (omega arith)
-entry_at-index above (e ∷ es) next zero d h k = entry_at-first e es
-entry_at-index above (e ∷ es) next (suc i) d h k =
-    let inside : i < length es = omega arith in
-    let more : e.number < (get_or es i d).number = number-above e.number es next i d h.1 inside in
-    entry_at-behind e es (get_or es i d).number (λ same. omega arith) ∙ entry_at-index e.number es next i d h.1 inside
 
 -- what holds of each number with its entry holds of all entries
 pub all-entries : (P : Entry → Type 0) (above : ℕ) (es : List Entry) (next : ℕ) → NumbersRise above es next → ((e : Entry) → entry_at es e.number ≡ Some e → P e) → AllByRecursion P es
@@ -155,10 +137,6 @@ entry_of es n p h = elim (entry_at es n) as (λ o. entry_at es n ≡ o → optio
 pub live-is : (es : List Entry) (n : ℕ) → Lives es n → is_live es n ≡ true
 live-is es n (inl root) = ap (λ (b : Bool). b || is_some (entry_at es n)) (eq-eqb n 0 root)
 live-is es n (inr found) = ap (λ (o : Option Entry). (n == 0) || is_some o) found.1 ∙ or-true (n == 0)
-  where
-    or-true : (b : Bool) → (b || true) ≡ true
-    or-true true = refl
-    or-true false = refl
 
 pub is-live : (es : List Entry) (n : ℕ) → is_live es n ≡ true → Lives es n
 is-live es n h =
@@ -183,12 +161,10 @@ directory-lives es d h =
     made (inr found) h = inr found
 
 other_kind : (body : Body) → is_directory body ≡ true → is_leaf body ≡ false
-other_kind (File text dirty shown) h = absurd cc
 other_kind Dir h = refl
 other_kind (Semantic query permanent prohibited) h = refl
-other_kind (Symlink target) h = absurd cc
 other_kind (Mount space answers) h = refl
-other_kind Document h = absurd cc
+other_kind other h = absurd cc
 
 -- a directory fails a test that all directories fail
 directory-tests : (test : Body → Bool) → ((body : Body) → is_directory body ≡ true → test body ≡ false) → (es : List Entry) (d : ℕ) → entry_at es 0 ≡ None → is_directory_at es d ≡ true → option_map_or test (body_at es d) false ≡ false
@@ -208,14 +184,6 @@ directory-tests test fails es d root h =
 pub directory-no_leaf : (es : List Entry) (d : ℕ) → entry_at es 0 ≡ None → is_directory_at es d ≡ true → is_leaf_at es d ≡ false
 directory-no_leaf es d root h = directory-tests is_leaf other_kind es d root h
 
--- a file is one
-pub file-leaf : (es : List Entry) (n : ℕ) → is_file_at es n ≡ true → is_leaf_at es n ≡ true
-file-leaf es n h =
-    elim (entry_at es n) as (λ o. option_map_or is_file (option_map (λ (e : Entry). e.body) o) false ≡ true → option_map_or is_leaf (option_map (λ (e : Entry). e.body) o) false ≡ true) [
-      | None ↦ (λ h. absurd cc)
-      | Some e ↦ (λ h. ap (λ (b : Bool). b || is_symlink e.body) h)
-    ] h
-
 -- a mount is a directory
 pub mount-directory : (es : List Entry) (d : ℕ) → is_mount_at es d ≡ true → is_directory_at es d ≡ true
 mount-directory es d h = or_right (d == 0) (is_made_directory es d) (elim (entry_at es d) as (λ o. option_map_or is_mount (option_map (λ (e : Entry). e.body) o) false ≡ true → option_map_or is_directory (option_map (λ (e : Entry). e.body) o) false ≡ true) [
@@ -225,11 +193,7 @@ mount-directory es d h = or_right (d == 0) (is_made_directory es d) (elim (entry
   where
     body : (b : Body) → is_mount b ≡ true → is_directory b ≡ true
     body (Mount space answers) h = refl
-    body (File text dirty shown) h = absurd cc
-    body Dir h = absurd cc
-    body (Symlink target) h = absurd cc
-    body (Semantic query permanent prohibited) h = absurd cc
-    body Document h = absurd cc
+    body other h = absurd cc
 
 -- what is in place is in a directory
 pub place-directory : (es : List Entry) (e : Entry) → is_in_place es e ≡ true → is_directory_at es e.parent ≡ true
@@ -245,22 +209,11 @@ place-same es fs e same = ap (λ (o : Option Entry).
     if is_document e.body then option_map_or is_mount (option_map (λ (e : Entry). e.body) o) false
     else ((e.parent == 0 || option_map_or is_directory (option_map (λ (e : Entry). e.body) o) false) && not (option_map_or is_mount (option_map (λ (e : Entry). e.body) o) false))) same
 
--- a document is nothing else
-pub document-leaf : (body : Body) → is_document body ≡ true → is_leaf body ≡ false
-document-leaf Document h = refl
-document-leaf (File text dirty shown) h = absurd cc
-document-leaf Dir h = absurd cc
-document-leaf (Symlink target) h = absurd cc
-document-leaf (Semantic query permanent prohibited) h = absurd cc
-document-leaf (Mount space answers) h = absurd cc
-
 no_linkable : (body : Body) → is_directory body ≡ true → is_linkable body ≡ false
 no_linkable Dir h = refl
 no_linkable (Semantic query permanent prohibited) h = refl
 no_linkable (Mount space answers) h = refl
-no_linkable (File text dirty shown) h = absurd cc
-no_linkable (Symlink target) h = absurd cc
-no_linkable Document h = absurd cc
+no_linkable other h = absurd cc
 
 -- a directory is nothing that can be linked
 pub directory-no_item : (es : List Entry) (d : ℕ) → entry_at es 0 ≡ None → is_directory_at es d ≡ true → option_map_or is_linkable (body_at es d) false ≡ false

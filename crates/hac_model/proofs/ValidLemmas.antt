@@ -23,11 +23,11 @@ use Rattle.hac_model.specs.declared.states.Body.TheVariants.{File, Dir, Semantic
 use Rattle.hac_model.specs.declared.states.Entry.{Entry}
 use Rattle.hac_model.specs.declared.states.State.{State}
 use Rattle.hac_model.proofs.ChangeLemmas.{all-append, all-changed, all-filter, all-weaker, differ-append, differ-edited, differ-kept, differ-reseated, directory-changed, entry_at-kept, entry_at-other, is_kept, numbers-append, numbers-changed, numbers-kept, test-changed}
-use Rattle.hac_model.proofs.CountLemmas.{indexed-keeps, rewritten-keeps}
 use Rattle.hac_model.proofs.FittingLemmas.{IsFitting, fitting-layout, layout-fits}
 use Rattle.hac_model.proofs.MapLemmas.{KeepsMeasures, measures-passed}
 use Rattle.hac_model.proofs.PathLemmas.{root-none}
 use Rattle.hac_model.proofs.TreeLemmas.{Lives, directory-lives, directory-no_leaf, entry_at-behind, entry_at-below, entry_at-first, place-directory, place-same, rise-below}
+use Rattle.hac_model.proofs.KindLemmas.{KeepsRole, kind-forgetting, keeps-directory, keeps-document, keeps-mount}
 
 pub empty-layout : IsLayout empty
 unfolding passed_limit first_passed
@@ -78,12 +78,6 @@ added-fits s dir name body h free sound kind =
 pub added-layout : (s : State) (dir : ℕ) (name : List ℕ) (body : Body) → IsLayout s → is_free s dir name ≡ true → IsSound body → is_document body ≡ false → passed_limit (added s dir name body) ≡ None → IsLayout (added s dir name body)
 added-layout s dir name body h free sound kind limits = fitting-layout (added s dir name body) (added-fits s dir name body h free sound kind) limits
 
--- the edit keeps directories, mounts and documents
-pub record KeepsPlaces (edit : Body → Body) : Type 0 where
-  pub directories : (body : Body) → is_directory (edit body) ≡ is_directory body
-  pub mounts : (body : Body) → is_mount (edit body) ≡ is_mount body
-  pub documents : (body : Body) → is_document (edit body) ≡ is_document body
-
 -- what is in place stays there where one entry is changed, but for its place
 pub place-changed : (n : ℕ) (change : Entry → Entry) (es : List Entry) (e : Entry) → ((e : Entry) → (change e).number ≡ e.number) → ((e : Entry) → is_directory (change e).body ≡ is_directory e.body) → ((e : Entry) → is_mount (change e).body ≡ is_mount e.body) →
     is_in_place (changed_in n change es) e ≡ is_in_place es e
@@ -94,21 +88,21 @@ place-changed n change es e numbers directories mounts = λ i.
     mount = test-changed is_mount n change es e.parent numbers mounts
 
 -- a body is edited, and stays of its kind
-pub edited-fits : (s : State) (n : ℕ) (edit : Body → Body) → KeepsPlaces edit → ((body : Body) → IsSound body → IsSound (edit body)) → IsFitting s → IsFitting (changed_at s n (edited edit))
+pub edited-fits : (s : State) (n : ℕ) (edit : Body → Body) → KeepsRole edit → ((body : Body) → IsSound body → IsSound (edit body)) → IsFitting s → IsFitting (changed_at s n (edited edit))
 edited-fits s n edit kind sound h =
     let change : Entry → Entry = edited edit in
-    let stay : (e : Entry) → is_in_place (changed_in n change s.entries) e ≡ is_in_place s.entries e = λ e. place-changed n change s.entries e (λ e. refl) (λ e. kind.directories e.body) (λ e. kind.mounts e.body) in
+    let stay : (e : Entry) → is_in_place (changed_in n change s.entries) e ≡ is_in_place s.entries e = λ e. place-changed n change s.entries e (λ e. refl) (λ e. keeps-directory edit kind e.body) (λ e. keeps-mount edit kind e.body) in
     record {
       numbers = numbers-changed n change 0 s.entries s.next (λ e. refl) h.numbers;
       names = all-changed (λ e. IsTrue (is_name e.name)) n change s.entries (λ e there. there) h.names;
       places = all-changed (λ e. IsTrue (is_in_place (changed_in n change s.entries) e)) n change s.entries
-          (λ e there. ap (λ (b : Bool). if b then is_mount_at (changed_in n change s.entries) e.parent else is_holder_at (changed_in n change s.entries) e.parent) (kind.documents e.body) ∙ there)
+          (λ e there. ap (λ (b : Bool). if b then is_mount_at (changed_in n change s.entries) e.parent else is_holder_at (changed_in n change s.entries) e.parent) (keeps-document edit kind e.body) ∙ there)
           (all-weaker (λ e. IsTrue (is_in_place s.entries e)) (λ e. IsTrue (is_in_place (changed_in n change s.entries) e)) s.entries (λ e there. stay e ∙ there) h.places);
       differ = differ-edited n edit s.entries h.differ;
       bodies = all-changed (λ e. IsSound e.body) n change s.entries (λ e there. sound e.body there) h.bodies;
     }
 
-pub edited-layout : (s : State) (n : ℕ) (edit : Body → Body) → KeepsPlaces edit → ((body : Body) → IsSound body → IsSound (edit body)) → IsLayout s → passed_limit (changed_at s n (edited edit)) ≡ None → IsLayout (changed_at s n (edited edit))
+pub edited-layout : (s : State) (n : ℕ) (edit : Body → Body) → KeepsRole edit → ((body : Body) → IsSound body → IsSound (edit body)) → IsLayout s → passed_limit (changed_at s n (edited edit)) ≡ None → IsLayout (changed_at s n (edited edit))
 edited-layout s n edit kind sound h limits = fitting-layout (changed_at s n (edited edit)) (edited-fits s n edit kind sound (layout-fits s h)) limits
 
 -- the numbers of entries are above what they have to be above
@@ -192,95 +186,24 @@ pub rewritten-sound : (text : List ℕ) → is_text text ≡ true → (body : Bo
 rewritten-sound text fits (File old dirty shown) h = record { fits = fits; shown_fits = h.shown_fits; clean = λ clean. absurd cc }
 rewritten-sound text fits other h = h
 
-pub rewritten-kind : (text : List ℕ) (body : Body) → is_directory (rewritten text body) ≡ is_directory body
-rewritten-kind text (File old dirty shown) = refl
-rewritten-kind text other = refl
-
 pub indexed-sound : (body : Body) → IsSound body → IsSound (indexed body)
 indexed-sound (File text dirty shown) h = record { fits = h.fits; shown_fits = h.fits; clean = λ clean. refl }
 indexed-sound other h = h
 
-pub indexed-kind : (body : Body) → is_directory (indexed body) ≡ is_directory body
-indexed-kind (File text dirty shown) = refl
-indexed-kind other = refl
-
-pub rewritten-places : (text : List ℕ) → KeepsPlaces (rewritten text)
-rewritten-places text = let keeps = rewritten-keeps text in record { directories = keeps.directories; mounts = keeps.mounts; documents = keeps.documents }
-
-pub indexed-places : KeepsPlaces indexed
-indexed-places = let keeps = indexed-keeps in record { directories = keeps.directories; mounts = keeps.mounts; documents = keeps.documents }
-
 -- Edits of queries and marks.
-
-pub asking-kind : (query : Formula ℕ) (body : Body) → is_directory (asking query body) ≡ is_directory body
-asking-kind query Dir = refl
-asking-kind query (Semantic old permanent prohibited) = refl
-asking-kind query other = refl
-
-pub asking-places : (query : Formula ℕ) → KeepsPlaces (asking query)
-asking-places query = record { directories = asking-kind query; mounts = mounts; documents = documents }
-  where
-    mounts : (body : Body) → is_mount (asking query body) ≡ is_mount body
-    mounts Dir = refl
-    mounts (Semantic old permanent prohibited) = refl
-    mounts other = refl
-
-    documents : (body : Body) → is_document (asking query body) ≡ is_document body
-    documents Dir = refl
-    documents (Semantic old permanent prohibited) = refl
-    documents other = refl
 
 pub asking-sound : (query : Formula ℕ) (body : Body) → IsSound body → IsSound (asking query body)
 asking-sound query Dir h = tt
 asking-sound query (Semantic old permanent prohibited) h = tt
 asking-sound query other h = h
 
-pub plain-kind : (body : Body) → is_directory (plain_body body) ≡ is_directory body
-plain-kind (Semantic query permanent prohibited) = refl
-plain-kind other = refl
-
-pub plain-places : KeepsPlaces plain_body
-plain-places = record { directories = plain-kind; mounts = mounts; documents = documents }
-  where
-    mounts : (body : Body) → is_mount (plain_body body) ≡ is_mount body
-    mounts (Semantic query permanent prohibited) = refl
-    mounts other = refl
-
-    documents : (body : Body) → is_document (plain_body body) ≡ is_document body
-    documents (Semantic query permanent prohibited) = refl
-    documents other = refl
-
 pub plain-sound : (body : Body) → IsSound body → IsSound (plain_body body)
 plain-sound (Semantic query permanent prohibited) h = tt
 plain-sound other h = h
 
 pub forgetting-measures : (n : ℕ) → KeepsMeasures (forgetting n)
-forgetting-measures n = record { kind = kind; file = file; symlink = symlink; mount = mount; document = document; queried = queried; texts = texts }
+forgetting-measures n = record { kind = kind-forgetting n; texts = texts }
   where
-    mount : (body : Body) → is_mount (forgetting n body) ≡ is_mount body
-    mount (Semantic query permanent prohibited) = refl
-    mount other = refl
-
-    document : (body : Body) → is_document (forgetting n body) ≡ is_document body
-    document (Semantic query permanent prohibited) = refl
-    document other = refl
-
-    kind : (body : Body) → is_directory (forgetting n body) ≡ is_directory body
-    kind (Semantic query permanent prohibited) = refl
-    kind other = refl
-
-    file : (body : Body) → is_file (forgetting n body) ≡ is_file body
-    file (Semantic query permanent prohibited) = refl
-    file other = refl
-
-    symlink : (body : Body) → is_symlink (forgetting n body) ≡ is_symlink body
-    symlink (Semantic query permanent prohibited) = refl
-    symlink other = refl
-
-    queried : (body : Body) → is_some (query_in (forgetting n body)) ≡ is_some (query_in body)
-    queried (Semantic query permanent prohibited) = refl
-    queried other = refl
-
     texts : (body : Body) → file_bytes (forgetting n body) ≡ file_bytes body
     texts (Semantic query permanent prohibited) = refl
     texts other = refl
@@ -288,39 +211,6 @@ forgetting-measures n = record { kind = kind; file = file; symlink = symlink; mo
 pub forgetting-sound : (n : ℕ) (body : Body) → IsSound body → IsSound (forgetting n body)
 forgetting-sound n (Semantic query permanent prohibited) h = tt
 forgetting-sound n other h = h
-
-pub marked-kind : (n : ℕ) (kind : Kind) (body : Body) → is_directory (marked n kind body) ≡ is_directory body
-marked-kind n Permanent (Semantic query permanent prohibited) = refl
-marked-kind n Prohibited (Semantic query permanent prohibited) = refl
-marked-kind n Transient (Semantic query permanent prohibited) = refl
-marked-kind n Unlinked (Semantic query permanent prohibited) = refl
-marked-kind n Permanent other = refl
-marked-kind n Prohibited other = refl
-marked-kind n Transient other = refl
-marked-kind n Unlinked other = refl
-
-pub marked-places : (n : ℕ) (kind : Kind) → KeepsPlaces (marked n kind)
-marked-places n kind = record { directories = marked-kind n kind; mounts = mounts kind; documents = documents kind }
-  where
-    mounts : (kind : Kind) (body : Body) → is_mount (marked n kind body) ≡ is_mount body
-    mounts Permanent (Semantic query permanent prohibited) = refl
-    mounts Prohibited (Semantic query permanent prohibited) = refl
-    mounts Transient (Semantic query permanent prohibited) = refl
-    mounts Unlinked (Semantic query permanent prohibited) = refl
-    mounts Permanent other = refl
-    mounts Prohibited other = refl
-    mounts Transient other = refl
-    mounts Unlinked other = refl
-
-    documents : (kind : Kind) (body : Body) → is_document (marked n kind body) ≡ is_document body
-    documents Permanent (Semantic query permanent prohibited) = refl
-    documents Prohibited (Semantic query permanent prohibited) = refl
-    documents Transient (Semantic query permanent prohibited) = refl
-    documents Unlinked (Semantic query permanent prohibited) = refl
-    documents Permanent other = refl
-    documents Prohibited other = refl
-    documents Transient other = refl
-    documents Unlinked other = refl
 
 pub marked-sound : (n : ℕ) (kind : Kind) (body : Body) → IsSound body → IsSound (marked n kind body)
 marked-sound n Permanent (Semantic query permanent prohibited) h = tt
@@ -386,11 +276,3 @@ rmdir-parts s dir h =
 -- an event that is accepted fits, and leads to a state that exceeds no limit
 pub accepted-parts : (possible : Bool) (passes : Option LimitWord) → (possible && is_none passes) ≡ true → (possible ≡ true) × (passes ≡ None)
 accepted-parts possible passes h = let parts = and_parts possible (is_none passes) h in (parts.0, none_from passes parts.1)
-
-pub indexed-linkable : (body : Body) → is_linkable (indexed body) ≡ is_linkable body
-indexed-linkable (File text dirty shown) = refl
-indexed-linkable other = refl
-
-pub indexed-document : (body : Body) → is_document (indexed body) ≡ is_document body
-indexed-document (File text dirty shown) = refl
-indexed-document other = refl

@@ -35,6 +35,7 @@ use Rattle.hac_model.specs.declared.events.Event.{Event}
 use Rattle.hac_model.specs.declared.events.Event.TheVariants.{Mv, Setq, Step, Unq}
 use Rattle.hac_model.specs.declared.marks.Kind.{Kind}
 use Rattle.hac_model.specs.Query.Formula.{Formula}
+use Rattle.hac_model.specs.declared.limits.TheConstants.{PAYLOAD_LIMIT}
 use Rattle.hac_model.specs.declared.places.Place.TheVariants.{There}
 use Rattle.hac_model.specs.declared.resolved.Resolved.{Resolved}
 use Rattle.hac_model.specs.declared.resolved.Resolved.TheVariants.{Index}
@@ -160,6 +161,12 @@ abbrev pub SessionsAreNotStored : Type 0
 SessionsAreNotStored =
     (s : State) (event : Event) → IsValid s → IsTrue (is_stored event) → IsTrue (accepted s event) →
     IsTrue (accepted (sessionless s) event) × (sessionless (apply s event) ≡ apply (sessionless s) event)
+
+-- so it is in a store of version 2, whatever the version of the state
+abbrev pub StoredEventsHappen : Type 0
+StoredEventsHappen =
+    (s : State) (event : Event) → IsValid s → IsTrue (is_stored event) → IsTrue (accepted s event) →
+    IsTrue (accepted (stored s) event) × (stored (apply s event) ≡ apply (stored s) event)
 
 -- a state that a store of some version may hold is one that a store of version 2 may hold
 abbrev pub RaisedIsValid : Type 0
@@ -445,12 +452,12 @@ FirstMade =
     × (take 2 semantic_lines ≡ codes "smkdir /s0 w0" ∷ codes "smkdir /s1 {/s0} AND NOT w11 OR w1" ∷ [])
     × (drop 9 semantic_lines ≡ codes "smkdir /s9 {/s8} AND NOT w19 OR w9" ∷ [])
 
--- the payload of an event that can happen and is stored has so few bytes that four say how many
+-- the payload of an event that can happen and is stored is no longer than a payload may be
 abbrev pub EventsAreShort : Type 0
 EventsAreShort =
     (s : State) (event : Event) → IsValid s → IsTrue (is_stored event) → IsTrue (accepted s event) →
-    length (event_text s.version event) < 2 ^ 32
+    length (event_text s.version event) ≤ PAYLOAD_LIMIT
 
--- so has the one in which a checkpoint writes a valid state
+-- four bytes say how many the one has in which a checkpoint writes a valid state
 abbrev pub StatesAreShort : Type 0
 StatesAreShort = (s : State) → IsValid s → length (state_text (raised s)) < 2 ^ 32

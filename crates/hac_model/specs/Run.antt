@@ -10,3 +10,4 @@ pub mod Settings
 pub mod Checkpoints
 pub mod Play
 pub mod Costs
+pub mod History

@@ -11,6 +11,7 @@ pub mod CommandLine
 pub mod Generator
 pub mod SpaceNames
 pub mod CommandTexts
+pub mod Dump
 use Rattle.std.specs.Prelude.{ℕ, zero, suc, Bool, ◌+◌, ◌&&◌, if◌then◌else◌, nat_le, nat_lt, List, [], ◌++◌, length, take, drop}
 use Rattle.std.specs.List.{before_first, after_first, position_or_len}
 use Rattle.std.specs.Option.{unwrap_or}

@@ -4,6 +4,7 @@ pub mod Changes
 pub mod Valid
 pub mod ValidTest
 pub mod Looks
+pub mod Same
 pub mod Listing
 pub mod Paths
 pub mod Names
@@ -19,7 +20,7 @@ pub mod Mounting
 pub mod Asking
 pub mod Touched
 pub mod Costs
-use Rattle.std.specs.Prelude.{ℕ, zero, suc, ◌+◌, Bool, true, false, ◌==◌, ◌&&◌, ◌||◌, not, if◌then◌else◌, nat_le, List, [], ◌∷◌, length, map, reverse, Option, Some, None, is_some}
+use Rattle.std.specs.Prelude.{ℕ, zero, suc, ◌+◌, Bool, true, false, ◌==◌, ◌&&◌, ◌||◌, not, if◌then◌else◌, List, [], ◌∷◌, map, reverse, Option, Some, None, is_some}
 use Rattle.std.specs.Option.{option_map, option_map_or}
 use Rattle.std.specs.Str.{bytes_eq}
 use Rattle.hac_model.specs.declared.limits.TheConstants.{PATH_LIMIT}
@@ -28,6 +29,8 @@ use Rattle.hac_model.specs.declared.states.Answer.{Answer}
 use Rattle.hac_model.specs.declared.states.Body.{Body}
 use Rattle.hac_model.specs.declared.states.Body.TheVariants.{File, Dir, Symlink, Semantic, Mount, Document}
 use Rattle.hac_model.specs.declared.states.Entry.{Entry}
+use Rattle.hac_model.specs.declared.states.EntryKind.{EntryKind}
+use Rattle.hac_model.specs.declared.states.EntryKind.TheVariants as kind
 use Rattle.hac_model.specs.declared.states.State.{State}
 use Rattle.hac_model.specs.declared.versions.Version.{Version}
 use Rattle.hac_model.specs.declared.versions.Version.TheVariants.{Two}
@@ -72,45 +75,56 @@ lineage entries number = ancestors (PATH_LIMIT + 1) entries number
 unfoldable pub path_of : State → ℕ → List (List ℕ)
 path_of s number = reverse (map (λ entry. entry.name) (lineage s.entries number))
 
--- the path of an entry has no more names than a path may have
-unfoldable pub is_path_short : List Entry → ℕ → Bool
-is_path_short entries number = nat_le (length (lineage entries number)) PATH_LIMIT
+-- of which kind an entry with this body is
+abbrev pub entry_kind : Body → EntryKind
+entry_kind (File text dirty shown) = kind.File
+entry_kind Dir = kind.Dir
+entry_kind (Symlink target) = kind.Symlink
+entry_kind (Semantic query permanent prohibited) = kind.Semantic
+entry_kind (Mount space answers) = kind.Mount
+entry_kind Document = kind.Document
+
+-- the kind of the entry of a number. The root, which is no entry, is a plain directory.
+abbrev pub entry_kind_at : List Entry → ℕ → EntryKind
+entry_kind_at entries number = option_map_or entry_kind (body_at entries number) kind.Dir
+
+-- two kinds are the same
+abbrev pub is_kind : EntryKind → EntryKind → Bool
+is_kind kind.File kind.File = true
+is_kind kind.Dir kind.Dir = true
+is_kind kind.Symlink kind.Symlink = true
+is_kind kind.Semantic kind.Semantic = true
+is_kind kind.Mount kind.Mount = true
+is_kind kind.Document kind.Document = true
+is_kind one other = false
 
 abbrev pub is_file : Body → Bool
-is_file (File text dirty shown) = true
-is_file other = false
+is_file body = is_kind kind.File (entry_kind body)
 
 abbrev pub is_symlink : Body → Bool
-is_symlink (Symlink target) = true
-is_symlink other = false
+is_symlink body = is_kind kind.Symlink (entry_kind body)
 
 -- nothing can be in it
 abbrev pub is_leaf : Body → Bool
 is_leaf body = is_file body || is_symlink body
 
 abbrev pub is_mount : Body → Bool
-is_mount (Mount space answers) = true
-is_mount other = false
+is_mount body = is_kind kind.Mount (entry_kind body)
 
 abbrev pub is_document : Body → Bool
-is_document Document = true
-is_document other = false
+is_document body = is_kind kind.Document (entry_kind body)
 
 -- it can be linked: a file or a document
 abbrev pub is_linkable : Body → Bool
 is_linkable body = is_file body || is_document body
 
--- a directory of any kind
-abbrev pub is_directory : Body → Bool
-is_directory Dir = true
-is_directory (Semantic query permanent prohibited) = true
-is_directory (Mount space answers) = true
-is_directory other = false
-
 -- a directory that is neither semantic nor a mount
 abbrev pub is_plain : Body → Bool
-is_plain Dir = true
-is_plain other = false
+is_plain body = is_kind kind.Dir (entry_kind body)
+
+-- a directory of any kind
+abbrev pub is_directory : Body → Bool
+is_directory body = is_plain body || (is_kind kind.Semantic (entry_kind body) || is_mount body)
 
 -- was made or written since it was last indexed
 abbrev pub is_dirty : Body → Bool
@@ -136,6 +150,10 @@ target_in other = None
 abbrev pub query_in : Body → Option (Formula ℕ)
 query_in (Semantic query permanent prohibited) = Some query
 query_in other = None
+
+-- it asks for something
+abbrev pub is_queried : Body → Bool
+is_queried body = is_some (query_in body)
 
 -- the items and directories that the user added to a semantic directory
 abbrev pub permanent_in : Body → List ℕ

@@ -8,7 +8,7 @@ ghost use Rattle.hac_model.specs.Laws.{BareCommutes, FactsFollow, SessionsFollow
 ghost use Rattle.hac_model.specs.Laws.{LinesSpell};
 ghost use Rattle.hac_model.specs.Laws.{CommandsHappen, StepsAreDue, StepsClean, IndexCleans};
 ghost use Rattle.hac_model.specs.Laws.{ScriptsKeepValid, EventsLead, EventsEnd, AcceptedAreSpelled};
-ghost use Rattle.hac_model.specs.Laws.{ValidAreSpelled, SessionsAreNotStored, FullStore};
+ghost use Rattle.hac_model.specs.Laws.{ValidAreSpelled, SessionsAreNotStored, StoredEventsHappen, FullStore};
 ghost use Rattle.hac_model.specs.Laws.{FirstAreas};
 ghost use Rattle.hac_model.specs.Laws.{FirstCommandLines, NoCommandLines, LinksStay, LinksAreOnly};
 ghost use Rattle.hac_model.specs.Laws.{ValidIsAcyclic, PlainTellsState, LooksFind, LooksFollow};
@@ -23,6 +23,7 @@ ghost use Rattle.hac_model.specs.Laws.{FirstLinks, FirstSteps};
 ghost use Rattle.hac_model.specs.Laws.{FirstEnd, LastNumbers, NoRoot, ValidityIsTested};
 ghost use Rattle.hac_model.specs.Laws.{EventsAreShort, RaisedIsValid, RaisedLinks};
 ghost use Rattle.hac_model.specs.Laws.{StatesAreShort};
+ghost use Rattle.hac_model.specs.Run.History.{HistoriesGoOn, ReplayingIsNoDearer};
 ghost use Rattle.hac_model.specs.Tree.Costs.{FirstCosts};
 
 /// Two joined scripts are played one after the other, where the first one consists of whole lines,
@@ -107,13 +108,15 @@ pub fn valid_states_are_spelled()
     ensures { ValidAreSpelled }
 {}
 
-/// Where sessions stand is never stored.
+/// Where sessions stand is never stored, and what happens to a store of version 1 can happen to one
+/// of version 2.
 pub fn sessions_are_not_stored()
-    ensures { SessionsAreNotStored }
+    ensures same { SessionsAreNotStored }
+    ensures raised { StoredEventsHappen }
 {}
 
 /// Four bytes can say how long each payload is that is ever written: that of an event that can
-/// happen, and that of a whole valid state.
+/// happen, which has at most `PAYLOAD_LIMIT` bytes, and that of a whole valid state.
 pub fn payloads_are_short()
     ensures events { EventsAreShort }
     ensures states { StatesAreShort }
@@ -224,8 +227,8 @@ pub fn first_steps()
     ensures { FirstSteps }
 {}
 
-/// What three events cost in a small state: a file that gets another text, the step that indexes it,
-/// and a new semantic directory.
+/// What five events cost in a small state: a file that gets another text, the step that indexes it,
+/// a new semantic directory, and the removal of a file and of a symbolic link.
 pub fn first_costs()
     ensures { FirstCosts }
 {}
@@ -250,4 +253,14 @@ pub fn first_command_lines()
 pub fn first_drawn_lines()
     ensures made { FirstMade }
     ensures drawn { FirstDrawn }
+{}
+
+/// Payloads that all make events happen lead to a state from which the payloads behind them go on.
+pub fn histories_go_on()
+    ensures { HistoriesGoOn }
+{}
+
+/// To replay an event that can happen costs no more than it may have cost when it was stored.
+pub fn replaying_is_no_dearer()
+    ensures { ReplayingIsNoDearer }
 {}

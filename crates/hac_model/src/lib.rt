@@ -32,9 +32,9 @@ pub use events::Event;
 pub use limits::{
     ANSWERS_LIMIT, CATALOGUE_LIMIT, DIRS_LIMIT, DOCS_LIMIT, FOLLOW_LIMIT, ITEMS_LIMIT, LINE_LIMIT,
     Limit, LimitWord, MOUNTS_LIMIT, NAME_LIMIT, NESTING_LIMIT, NUMBERS_LIMIT, PAIRS_LIMIT,
-    PATH_LIMIT, QUERY_LIMIT, SCRIPT_LIMIT, SEMANTICS_LIMIT, SESSIONS_LIMIT, SPACES_LIMIT,
-    STORE_LIMIT, SYMLINKS_LIMIT, TARGET_LIMIT, TERMS_LIMIT, TEXT_LIMIT, TEXTS_LIMIT, TICK_LIMIT,
-    first_passed,
+    PATH_LIMIT, PAYLOAD_LIMIT, QUERY_LIMIT, SCRIPT_LIMIT, SEMANTICS_LIMIT, SESSIONS_LIMIT,
+    SPACES_LIMIT, STORE_LIMIT, SYMLINKS_LIMIT, TARGET_LIMIT, TERMS_LIMIT, TEXT_LIMIT, TEXTS_LIMIT,
+    TICK_LIMIT, first_passed,
 };
 pub use marks::{Kind, Mark};
 pub use members::Member;
@@ -47,7 +47,7 @@ pub use replies::{Deny, Refusal, Reply};
 pub use resolved::Resolved;
 pub use snapshots::{Document, Snapshot, StoredEntry};
 pub use spaces::{Answers, Asks, Fetch, Search};
-pub use states::{Answer, Body, Entry, Session, State};
+pub use states::{Answer, Body, Entry, EntryKind, Session, State};
 pub use taken::Taken;
 pub use terms::{Term, Words};
 pub use versions::Version;

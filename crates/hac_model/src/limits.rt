@@ -80,6 +80,10 @@ pub const NUMBERS_LIMIT: u64 = 4_611_686_018_427_387_903;
 /// The most bytes of a store, up to the closed gate behind its log.
 pub const STORE_LIMIT: u64 = 1_099_511_627_776;
 
+/// The most bytes of an event's payload. No event that can happen has more: it holds one text at
+/// most, or what spaces told for a query, which counts against the answers that mounts may keep.
+pub const PAYLOAD_LIMIT: u64 = 67_108_864;
+
 /// The most bytes of a catalogue.
 pub const CATALOGUE_LIMIT: usize = 67_108_864;
 

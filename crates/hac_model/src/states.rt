@@ -40,6 +40,23 @@ pub struct Entry {
     pub body: Body,
 }
 
+/// The kind of an entry.
+#[derive(Clone, Copy, Debug, PartialEq, Eq)]
+pub enum EntryKind {
+    /// A file.
+    File,
+    /// A plain directory.
+    Dir,
+    /// A symbolic link.
+    Symlink,
+    /// A directory with a query.
+    Semantic,
+    /// A directory that shows another collection.
+    Mount,
+    /// An entry of a mount.
+    Document,
+}
+
 /// What an entry is, with what belongs to its kind.
 #[derive(Debug, Drop)]
 pub enum Body {

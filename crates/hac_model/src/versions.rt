@@ -20,7 +20,7 @@ pub enum Version {
 
 impl Version {
     /// The most directories of any kind, with the root.
-    pub fn dirs_limit(self) -> u64
+    pub(crate) fn dirs_limit(self) -> u64
         ensures { result ≡ dirs_limit self }
     {
         match self {
@@ -30,7 +30,7 @@ impl Version {
     }
 
     /// The most mounts.
-    pub fn mounts_limit(self) -> u64
+    pub(crate) fn mounts_limit(self) -> u64
         ensures { result ≡ mounts_limit self }
     {
         match self {
@@ -40,7 +40,7 @@ impl Version {
     }
 
     /// The most symbolic links.
-    pub fn symlinks_limit(self) -> u64
+    pub(crate) fn symlinks_limit(self) -> u64
         ensures { result ≡ symlinks_limit self }
     {
         match self {
@@ -70,7 +70,7 @@ impl Version {
     }
 
     /// The greatest number that the next entry may take.
-    pub fn numbers_limit(self) -> u64
+    pub(crate) fn numbers_limit(self) -> u64
         ensures { result ≡ numbers_limit self }
     {
         match self {

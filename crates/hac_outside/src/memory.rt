@@ -195,13 +195,6 @@ impl MemorySink {
     {
         &self.bytes
     }
-
-    /// How many of them were passed on by a flush.
-    pub fn flushed(&self) -> usize
-        ensures { result ≡ self.now.flushed }
-    {
-        self.flushed
-    }
 }
 
 impl Sink for MemorySink {

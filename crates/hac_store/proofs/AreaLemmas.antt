@@ -1,5 +1,6 @@
 -- Areas, as they are read from their first gate on.
-use Rattle.std.proofs.Common.{◌≡◌, ◌⊎◌, inl, inr, ℕ, ◌+◌, ◌<◌, ◌≤◌, None, Bool, true, false, if◌then◌else◌, List, length, take, Result, Ok, Err, refl, sym, ◌∙◌, ap, subst, arith}
+use Rattle.std.proofs.Common.{◌≡◌, ◌⊎◌, inl, inr, ℕ, ◌+◌, ◌<◌, ◌≤◌, None, Bool, true, false, if◌then◌else◌, List, [], length, take, Some, Result, Ok, Err, refl, sym, ◌∙◌, ap, subst, arith}
+use Rattle.std.specs.declared.option.Option.{Option}
 use Rattle.event_codec.specs.Kinds.{kind_of}
 use Rattle.event_codec.specs.declared.kinds.PayloadKind.{PayloadKind}
 use Rattle.event_codec.specs.declared.kinds.PayloadKind.TheVariants as kind
@@ -10,10 +11,13 @@ use Rattle.hac_checkpoint.specs.declared.heads.Stop.TheVariants as stop
 use Rattle.hac_checkpoint.proofs.ApartLemmas.{closed-gates-are-kept, records-are-kept}
 use Rattle.hac_journal.specs.Appending.{ClosedAt}
 use Rattle.hac_journal.specs.Finding.{Found, Whole, Closed, Short, found_at}
+use Rattle.hac_journal.specs.Logs.{Log, Record, behind_record, log_at}
 use Rattle.hac_journal.proofs.CrashLemmas.{front-less}
 use Rattle.hac_journal.proofs.LawLemmas.{closed-is-found, found-along, found-is-closed, found-is-whole}
-use Rattle.hac_model.specs.Payload.Payloads.{event_text}
+use Rattle.hac_journal.proofs.LogLemmas.{log-found}
+use Rattle.hac_model.specs.Payload.Payloads.{event_text, spelled}
 use Rattle.hac_model.specs.Payload.States.{restored, spelled_snapshot}
+use Rattle.hac_model.specs.Run.Answers.{◌>>=◌}
 use Rattle.hac_model.specs.Tree.{empty, root_alone}
 use Rattle.hac_model.specs.Tree.Limits.{first_passed, passed_limit}
 use Rattle.hac_model.specs.Tree.Sessions.{sessionless}
@@ -26,12 +30,13 @@ use Rattle.hac_model.specs.declared.versions.Version.{Version}
 use Rattle.hac_model.specs.declared.versions.Version.TheVariants.{One, Two}
 use Rattle.hac_model.proofs.ValidTestLemmas.{valid-Decides}
 use Rattle.hac_model.proofs.VersionLemmas.{none-few}
-use Rattle.hac_store.specs.Held.{Log, after_first, after_kind, after_snapshot, area, area_with, go_on, log}
-use Rattle.hac_store.proofs.LogLemmas.{go-parts, log-closed, log-ends, log-short, log-stored, log-valid, log-whole}
+use Rattle.hac_store.specs.Held.{Led, after_payload, after_snapshot, area, area_by_kind, area_in, begun_with, led_by, led_in, log}
+use Rattle.hac_store.proofs.LogLemmas.{go-parts, go_on, log-closed, log-ends, log-is, log-short, log-stored, log-valid, log-whole}
 
-pub area-found : (at : ℕ) (file : List ℕ) (found : Found) → found_at at file ≡ found → area at file ≡ area_with at file found
+-- an area, by the log that it has
+area-of : (at : ℕ) (file : List ℕ) (records : Log) → log_at at file ≡ records → area at file ≡ (area_in records >>= led_in)
 unfolding area
-area-found at file found is = ap (area_with at file) is
+area-of at file records is = ap (λ (l : Log). area_in l >>= led_in) is
 
 -- a record that is at the place holds an event of this version
 abbrev pub GoesOn : Version → ℕ → List ℕ → Type 0
@@ -59,14 +64,19 @@ event-kind Two event = refl
 pub area-event : (at : ℕ) (file payload : List ℕ) (behind : ℕ) (version : Version) → found_at at file ≡ Whole payload behind → kind_of payload ≡ kind.Event version
     → area at file ≡ log (root_alone version) at file
 area-event at file payload behind version found event =
-    area-found at file (Whole payload behind) found
-    ∙ ap (λ (k : PayloadKind). go_on (after_kind at payload k) (λ new. log new behind file)) event
-    ∙ sym (log-whole (root_alone version) at file payload behind found)
+    let first : Record = record { at = at; payload = payload } in
+    let here = log-found at file (Whole payload behind) found in
+    area-of at file (behind_record first (log_at behind file)) here
+    ∙ ap (λ (k : PayloadKind). area_by_kind first (log_at behind file) k >>= led_in) event
+    ∙ ap (led_by (root_alone version)) (sym here) ∙ sym (log-is (root_alone version) at file)
 
 -- where no record is, it is a log of what a new store holds
+area-empty : (at : ℕ) (file : List ℕ) (end : Option ℕ) → log_at at file ≡ record { records = []; end = end } → area at file ≡ log empty at file
+area-empty at file end here = area-of at file (record { records = []; end = end }) here ∙ ap (led_by empty) (sym here) ∙ sym (log-is empty at file)
+
 pub area-none : (at : ℕ) (file : List ℕ) → (found_at at file ≡ Closed) ⊎ (found_at at file ≡ Short) → area at file ≡ log empty at file
-area-none at file (inl closed) = area-found at file Closed closed ∙ sym (log-closed empty at file closed)
-area-none at file (inr short) = area-found at file Short short ∙ sym (log-short empty at file short)
+area-none at file (inl closed) = area-empty at file (Some at) (log-found at file Closed closed)
+area-none at file (inr short) = area-empty at file None (log-found at file Short short)
 
 -- and where one is of that version
 area-goes : (at : ℕ) (file : List ℕ) → GoesOn Two at file → area at file ≡ log empty at file
@@ -79,26 +89,46 @@ area-goes at file goes = by (found_at at file) refl
         area-event at file payload behind Two is (goes payload behind is)
 
 -- an area with a whole state is a log of that
+state-leads : (rest : Log) (behind : ℕ) (file : List ℕ) (r : Result State Stop) → log_at behind file ≡ rest → ((r >>= begun_with rest) >>= led_in) ≡ go_on r (λ new. log new behind file)
+state-leads rest behind file (Ok s) here = ap (led_by s) (sym here) ∙ sym (log-is s behind file)
+state-leads rest behind file (Err why) here = refl
+
 pub area-state : (at : ℕ) (file payload : List ℕ) (behind : ℕ) → found_at at file ≡ Whole payload behind → kind_of payload ≡ kind.State →
     area at file ≡ go_on (after_snapshot at (spelled_snapshot payload)) (λ new. log new behind file)
 area-state at file payload behind found is =
-    area-found at file (Whole payload behind) found ∙ ap (λ (k : PayloadKind). go_on (after_kind at payload k) (λ new. log new behind file)) is
+    let first : Record = record { at = at; payload = payload } in
+    area-of at file (behind_record first (log_at behind file)) (log-found at file (Whole payload behind) found)
+    ∙ ap (λ (k : PayloadKind). area_by_kind first (log_at behind file) k >>= led_in) is
+    ∙ state-leads (log_at behind file) behind file (after_snapshot at (spelled_snapshot payload)) refl
 
 pub area-closed : (at : ℕ) (file : List ℕ) → found_at at file ≡ Closed → area at file ≡ Ok (record { state = empty; end = at })
-area-closed at file is = area-found at file Closed is
+area-closed at file is = area-none at file (inl is) ∙ log-closed empty at file is
 
 pub area-short : (at : ℕ) (file : List ℕ) → found_at at file ≡ Short → area at file ≡ Err stop.Short
-area-short at file is = area-found at file Short is
+area-short at file is = area-none at file (inr is) ∙ log-short empty at file is
+
+-- the state behind the first record of an area: a whole state, or what an event makes of the root alone, by the kind of its
+-- payload
+abbrev after_kind : ℕ → List ℕ → PayloadKind → Result State Stop
+after_kind at payload kind.State = after_snapshot at (spelled_snapshot payload)
+after_kind at payload (kind.Event version) = after_payload (root_alone version) at (spelled version payload)
+
+area-whole : (at : ℕ) (file payload : List ℕ) (behind : ℕ) → found_at at file ≡ Whole payload behind → area at file ≡ go_on (after_kind at payload (kind_of payload)) (λ new. log new behind file)
+area-whole at file payload behind found =
+    elim (kind_of payload) as (λ k. kind_of payload ≡ k → area at file ≡ go_on (after_kind at payload k) (λ new. log new behind file)) [
+      | kind.State ↦ (λ state. area-state at file payload behind found state)
+      | kind.Event version ↦ (λ event. area-event at file payload behind version found event ∙ log-whole (root_alone version) at file payload behind found)
+    ] refl
 
 -- an area that was read ends at a closed gate, goes on in a file that agrees up to there and has an event of its version
 -- there, and is the same in a file that has the same in it
-pub record AreaEnds (at : ℕ) (d : List ℕ) (l : Log) : Type 0 where
+pub record AreaEnds (at : ℕ) (d : List ℕ) (l : Led) : Type 0 where
   pub closed : ClosedAt l.end d
   pub behind : at ≤ l.end
   pub along : (c : List ℕ) → take l.end c ≡ take l.end d → l.end < length c → GoesOn l.state.version l.end c → area at c ≡ log l.state l.end c
   pub kept : (place : Area) (c : List ℕ) → HaveSame place c d → place.start ≤ at → l.end ≤ place.end → area at c ≡ Ok l
 
-pub area-ends : (at : ℕ) (d : List ℕ) (l : Log) → area at d ≡ Ok l → AreaEnds at d l
+pub area-ends : (at : ℕ) (d : List ℕ) (l : Led) → area at d ≡ Ok l → AreaEnds at d l
 area-ends at d l is = by (found_at at d) refl
   where
     by : (found : Found) → found_at at d ≡ found → AreaEnds at d l
@@ -114,7 +144,7 @@ area-ends at d l is = by (found_at at d) refl
           kept = λ place c same low high. area-closed at c (closed-is-found at c (closed-gates-are-kept place at c d same low high (found-is-closed at d found)));
         })
     by (Whole payload behind) found =
-        let parts = go-parts (after_first at payload) (λ new. log new behind d) l (sym (area-found at d (Whole payload behind) found) ∙ is) in
+        let parts = go-parts (after_kind at payload (kind_of payload)) (λ new. log new behind d) l (sym (area-whole at d payload behind found) ∙ is) in
         let ends = log-ends parts.0 behind d l parts.2 in
         let whole = found-is-whole at behind payload d found in
         record {
@@ -122,10 +152,10 @@ area-ends at d l is = by (found_at at d) refl
           behind = omega (arith, whole.0, ends.behind);
           along = λ c front long goes.
               let again = found-along at behind payload c d found (front-less c d behind l.end ends.behind front) (omega (arith, ends.behind, long)) in
-              area-found at c (Whole payload behind) again ∙ ap (λ (r : Result State Stop). go_on r (λ next. log next behind c)) parts.1 ∙ ends.along c front long;
+              area-whole at c payload behind again ∙ ap (λ (r : Result State Stop). go_on r (λ next. log next behind c)) parts.1 ∙ ends.along c front long;
           kept = λ place c same low high.
               let again = records-are-kept place at behind payload c d same low (omega (arith, ends.behind, high)) found in
-              area-found at c (Whole payload behind) again ∙ ap (λ (r : Result State Stop). go_on r (λ next. log next behind c)) parts.1
+              area-whole at c payload behind again ∙ ap (λ (r : Result State Stop). go_on r (λ next. log next behind c)) parts.1
               ∙ ends.kept place c same (omega (arith, whole.0, low)) high;
         }
 
@@ -158,7 +188,7 @@ alone-valid version = record {
     none Two = refl
 
 -- what an area leads to is valid, and is in no session
-pub area-sound : (at : ℕ) (d : List ℕ) (l : Log) → area at d ≡ Ok l → IsValid l.state × (sessionless l.state ≡ l.state)
+pub area-sound : (at : ℕ) (d : List ℕ) (l : Led) → area at d ≡ Ok l → IsValid l.state × (sessionless l.state ≡ l.state)
 area-sound at d l is = by (found_at at d) refl
   where
     of_log : (version : Version) → log (root_alone version) at d ≡ Ok l → IsValid l.state × (sessionless l.state ≡ l.state)

@@ -17,13 +17,13 @@ use Rattle.hac_model.specs.declared.states.State.{State}
 use Rattle.hac_model.specs.declared.versions.Version.{Version}
 use Rattle.hac_model.specs.declared.versions.Version.TheVariants.{Two}
 use Rattle.hac_model.proofs.ValidTestLemmas.{valid-Decides}
-use Rattle.hac_store.specs.Held.{after_snapshot, area, go_on, log}
+use Rattle.hac_store.specs.Held.{after_snapshot, area, log}
 use Rattle.hac_store.specs.Reading.{BeginsArea, JudgesState}
 use Rattle.hac_store.specs.declared.areas.Begun.{Begun}
 use Rattle.hac_store.specs.declared.fault.StoreFault.{StoreFault}
 use Rattle.hac_store.specs.declared.fault.StoreFault.TheVariants as fault
 use Rattle.hac_store.proofs.AreaLemmas.{area-event, area-none, area-state}
-use Rattle.hac_store.proofs.LogLemmas.{log-short}
+use Rattle.hac_store.proofs.LogLemmas.{go_on, log-short}
 
 -- the state of a snapshot that was read
 pub state-read : (at : ℕ) (r : Result Snapshot ℕ) (snapshot : Snapshot) (s : State) → r ≡ Ok snapshot → s ≡ restored snapshot → IsValid s → after_snapshot at r ≡ Ok s

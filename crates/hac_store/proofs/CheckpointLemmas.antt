@@ -39,11 +39,11 @@ use Rattle.event_codec.proofs.SnapshotLemmas.{snapshot_is_read}
 use Rattle.snapshots.proofs.SnapshotLemmas.{snapshots-restore}
 use Rattle.hac_model.specs.Run.Checkpoints.{next_place, place_of, state_text}
 use Rattle.hac_store.specs.Checkpointing.{HoldsState, moved_to}
-use Rattle.hac_store.specs.Held.{Log, after_snapshot, area, go_on, held, log}
+use Rattle.hac_store.specs.Held.{Led, after_snapshot, area, held, log}
 use Rattle.hac_store.specs.Stores.{Seen, root_by}
 use Rattle.hac_store.proofs.AreaLemmas.{area-ends, area-state}
 use Rattle.hac_store.proofs.HeldLemmas.{held-area, held-parts, setting_of}
-use Rattle.hac_store.proofs.LogLemmas.{log-closed}
+use Rattle.hac_store.proofs.LogLemmas.{go_on, log-closed}
 
 -- ---- the new area
 
@@ -104,7 +104,7 @@ place-is store at size is = by (nat_lt store.setting.generation (2 ^ 64 - 1)) is
     by false is = absurd cc
 
 -- an area is read the same where a write apart from it was torn
-area-torn : (at n start : ℕ) (c d : List ℕ) (l : Log) → Torn at n d c
+area-torn : (at n start : ℕ) (c d : List ℕ) (l : Led) → Torn at n d c
     → IsApart at n (record { start = start; end = l.end }) → area start d ≡ Ok l → area start c ≡ Ok l
 area-torn at n start c d l torn apart is =
     let place : Area = record { start = start; end = l.end } in
@@ -118,10 +118,10 @@ module _ (store : Seen) (at : ℕ) where
   size = length (state_text (raised s))
 
   -- what the live area leads to, and the new one
-  abbrev old_log : Log
+  abbrev old_log : Led
   old_log = record { state = sessionless s; end = store.setting.end }
 
-  abbrev new_log : Log
+  abbrev new_log : Led
   new_log = record { state = stored s; end = at + 5 + size }
 
   -- a file that has both areas

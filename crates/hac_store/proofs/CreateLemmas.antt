@@ -4,6 +4,8 @@ use Rattle.std.specs.Bool.{⊤}
 use Rattle.std.specs.declared.option.Option.{Option}
 use Rattle.std.proofs.lemmas.List.{get_or-take, drop_at, take_at, length-take}
 use Rattle.hac_disk.specs.Contents.{HasByteAt, HasLength, StandAt, Written}
+use Rattle.hac_disk.specs.Exchanges.{Exchange}
+use Rattle.hac_disk.specs.Exchanges as exchange
 use Rattle.hac_disk.specs.Images.{IsQuiet, IsSettled, LeavesOnly, Only, Torn, TornFrom, overlaid}
 use Rattle.hac_disk.specs.Seen.{DiskSeen, IsLawful}
 use Rattle.hac_disk.proofs.Moments.{quiet_leaves, then_quiet, then_run, weaken}
@@ -11,10 +13,12 @@ use Rattle.hac_disk.proofs.ContentsLemmas.{if_known, told-settled, told-written}
 use Rattle.hac_checkpoint.specs.Flips.{HasRoot}
 use Rattle.hac_journal.specs.Appending.{ClosedAt}
 use Rattle.hac_model.specs.Run.Play.{new_setting}
-use Rattle.hac_store.specs.Creating.{Becomes, IsReady, HoldsNone}
+use Rattle.hac_store.specs.Creating.{Becomes, IsReady, HoldsNone, SyncsFirst}
 use Rattle.hac_store.specs.Held.{held}
 use Rattle.hac_store.specs.Stores.{Bears, IsNewOrNone, Seen, Stands, first_store, root_by}
+use Rattle.hac_outside.specs.declared.fault.Failed.{Failed}
 use Rattle.hac_store.specs.declared.fault.StoreFault.{StoreFault}
+use Rattle.hac_store.specs.declared.fault.StoreFault.TheVariants as fault
 use Rattle.hac_model.specs.declared.states.State.{State}
 use Rattle.hac_store.specs.declared.creating.TheConstants.{NEW}
 use Rattle.hac_store.proofs.HeldLemmas.{held-stored}
@@ -178,3 +182,28 @@ made-moments old synced found new lawful first second leaves =
     let begun = quiet_leaves old synced P (λ c since. inl (lawful.only_now c since)) first in
     then_run old found new P (then_quiet old synced found P begun second)
     (weaken found new IsNewOrNone P (λ c new. inr new) run))
+
+-- the opening sync, and what a crash leaves since
+module _ {D T : Type 0} (seen : D → DiskSeen) (does : Exchange → D → D → Type 0) (old : D) (result : Result T StoreFault) where
+  -- it failed
+  pub unsynced : (new : D) (why : Failed) → result ≡ Err fault.Disk → does (exchange.Sync (Err why)) old new
+      → IfSome (seen old).contents (λ file. IsErr (held file) → SyncsFirst seen does IsNewOrNone old new result)
+  unsynced new why is failed = if_each (seen old).contents (λ file. IsErr (held file) → SyncsFirst seen does IsNewOrNone old new result) (λ file told none. inr (is, (why, failed)))
+
+  -- it went well, and quiet calls followed
+  pub synced-quiet : (mid new : D) → IsLawful (seen mid) → IsQuiet (seen old) (seen mid) → IsSettled (seen mid) → does (exchange.Sync (Ok tt)) old mid → IsQuiet (seen mid) (seen new)
+      → IfSome (seen old).contents (λ file. IsErr (held file) → SyncsFirst seen does IsNewOrNone old new result)
+  synced-quiet mid new lawful first settled synced second =
+      if_each (seen old).contents (λ file. IsErr (held file) → SyncsFirst seen does IsNewOrNone old new result) (λ file told none.
+      let is : (seen mid).contents ≡ Some file = first.same ∙ told in
+      inl (record { mid = mid; synced = synced; since = quiet-run (seen mid) (seen new) file lawful is settled (subst HoldsNone (sym is) none) second }))
+
+  -- and then a store was made
+  pub synced-moments : (mid found new : D) → IsLawful (seen mid) → IsQuiet (seen old) (seen mid) → IsSettled (seen mid) → does (exchange.Sync (Ok tt)) old mid → IsQuiet (seen mid) (seen found)
+      → Leaves (seen found) (seen new) → IfSome (seen old).contents (λ file. IsErr (held file) → SyncsFirst seen does IsNewOrNone old new result)
+  synced-moments mid found new lawful first settled synced second leaves =
+      if_each (seen old).contents (λ file. IsErr (held file) → SyncsFirst seen does IsNewOrNone old new result) (λ file told none.
+      let is : (seen mid).contents ≡ Some file = first.same ∙ told in
+      let begun = quiet-run (seen mid) (seen found) file lawful is settled (subst HoldsNone (sym is) none) second in
+      let run = subst (λ s. IfSome s (λ _. LeavesNew (seen found) (seen new))) (second.same ∙ is) leaves in
+      inl (record { mid = mid; synced = synced; since = then_run (seen mid) (seen found) (seen new) IsNewOrNone begun run }))

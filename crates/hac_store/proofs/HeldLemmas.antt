@@ -21,14 +21,14 @@ use Rattle.hac_model.specs.Tree.Valid.{IsValid}
 use Rattle.hac_model.specs.declared.events.Event.{Event}
 use Rattle.hac_model.specs.declared.states.State.{State}
 use Rattle.hac_model.specs.declared.versions.Version.{Version}
-use Rattle.hac_store.specs.Held.{Log, area, from_root, held, log, with_root}
+use Rattle.hac_store.specs.Held.{Led, area, from_root, held, log, with_root}
 use Rattle.hac_store.specs.Stores.{HeldBetween}
 use Rattle.hac_store.proofs.AreaLemmas.{AreaEnds, GoesOn, area-ends, area-sound, closed-goes, event-goes, event-kind}
 use Rattle.hac_store.proofs.LogLemmas.{log-closed, log-records}
 use Rattle.hac_store.proofs.StoredLemmas.{AreStored}
 
 -- the store of a root and the end of its log
-abbrev pub setting_of : Root → Log → Setting
+abbrev pub setting_of : Root → Led → Setting
 setting_of root l = record { state = l.state; start = root.start; end = l.end; generation = root.generation }
 
 pub held-root : (file : List ℕ) (root : Root) → root_of file ≡ Ok root → held file ≡ placed file (with_root root (area root.start file))
@@ -39,7 +39,7 @@ pub held-stop : (file : List ℕ) (why : Stop) → root_of file ≡ Err why → 
 unfolding held
 held-stop file why is = ap (λ r. placed file (from_root file r)) is
 
-pub held-area : (file : List ℕ) (root : Root) (l : Log) → root_of file ≡ Ok root → area root.start file ≡ Ok l → held file ≡ Ok (setting_of root l)
+pub held-area : (file : List ℕ) (root : Root) (l : Led) → root_of file ≡ Ok root → area root.start file ≡ Ok l → held file ≡ Ok (setting_of root l)
 held-area file root l is read = held-root file root is ∙ ap (λ r. placed file (with_root root r)) read
 
 -- what is held, by its parts
@@ -49,7 +49,7 @@ pub record Parts (file : List ℕ) (setting : Setting) : Type 0 where
   pub area_is : area root.start file ≡ Ok (record { state = setting.state; end = setting.end })
   pub setting_is : setting ≡ setting_of root (record { state = setting.state; end = setting.end })
 
-with-parts : (file : List ℕ) (setting : Setting) (root : Root) (r : Result Log Stop) → root_of file ≡ Ok root → area root.start file ≡ r
+with-parts : (file : List ℕ) (setting : Setting) (root : Root) (r : Result Led Stop) → root_of file ≡ Ok root → area root.start file ≡ r
     → placed file (with_root root r) ≡ Ok setting → Parts file setting
 with-parts file setting root (Ok l) root_is area_is is =
     let same : setting_of root l ≡ setting = cc in
@@ -92,7 +92,7 @@ module _ (c d : List ℕ) (z : Setting) (is : held d ≡ Ok z) (front : take z.e
   held-ends = area-ends (held-parts d z is).root.start d (record { state = z.state; end = z.end }) (held-parts d z is).area_is
 
   -- it holds what its log makes of that store
-  pub held-along : (l : Log) → GoesOn z.state.version z.end c → log z.state z.end c ≡ Ok l → held c ≡ Ok (record z { state = l.state; end = l.end })
+  pub held-along : (l : Led) → GoesOn z.state.version z.end c → log z.state z.end c ≡ Ok l → held c ≡ Ok (record z { state = l.state; end = l.end })
   held-along l goes read =
       let parts = held-parts d z is in
       let high : 43 ≤ z.end = omega (arith, roots-start-behind d parts.root parts.root_is, held-ends.behind) in

@@ -1,78 +1,66 @@
 -- How many questions reading a store may take, record by record.
-use Rattle.std.proofs.Common.{◌≡◌, ℕ, zero, suc, ◌+◌, ◌≤◌, List, length, None, Some, IfOk, IfSome, Result, Ok, Err, refl, sym, ◌∙◌, ap, arith, Vec}
-use Rattle.std.proofs.lemmas.List.{drop_all}
+use Rattle.std.proofs.Common.{◌≡◌, ℕ, ◌+◌, ◌≤◌, Bool, true, false, if◌then◌else◌, List, [], ◌∷◌, None, Some, IfOk, IfSome, Result, Ok, Err, refl, sym, ◌∙◌, ap, arith, zero-add, Vec}
 use Rattle.std.specs.declared.alloc.Global.{Global}
 use Rattle.std.specs.declared.option.Option.{Option}
 use Rattle.event_codec.specs.Kinds.{kind_of}
+use Rattle.event_codec.specs.declared.kinds.PayloadKind.{PayloadKind}
 use Rattle.event_codec.specs.declared.kinds.PayloadKind.TheVariants as kind
 use Rattle.hac_checkpoint.specs.Roots.{root_of, IsRootSeen}
 use Rattle.hac_checkpoint.specs.declared.heads.Root.{Root}
 use Rattle.hac_checkpoint.specs.declared.heads.Stop.{Stop}
-use Rattle.hac_journal.specs.Finding.{Found, Whole, Closed, Short, TellsAt, found_at, found_in}
+use Rattle.hac_journal.specs.Finding.{Whole, Closed, TellsAt, found_at}
+use Rattle.hac_journal.specs.Logs.{Log, Record, behind_record, log_at, payloads_of}
 use Rattle.hac_journal.specs.declared.finding.Next.TheVariants.{Entry, End}
-use Rattle.hac_journal.proofs.LawLemmas.{found-is-whole}
+use Rattle.hac_journal.proofs.LogLemmas.{log-found}
 use Rattle.hac_model.specs.Payload.Payloads.{spelled}
 use Rattle.hac_model.specs.Payload.States.{spelled_snapshot}
+use Rattle.hac_model.specs.Run.Answers.{◌>>=◌}
+use Rattle.hac_model.specs.Run.History.{Unaccepted, event_by, event_spelled, history, history_with, replay_cost}
 use Rattle.hac_model.specs.Tree.{empty, root_alone}
 use Rattle.hac_model.specs.Tree.Costs.{opening}
+use Rattle.hac_model.specs.Tree.Events.{accepted, apply}
+use Rattle.hac_model.specs.declared.events.Event.{Event}
 use Rattle.hac_model.specs.declared.states.State.{State}
 use Rattle.hac_model.specs.declared.versions.Version.{Version}
 use Rattle.hac_model.specs.declared.versions.Version.TheVariants.{Two}
-use Rattle.hac_store.specs.Held.{after_payload, after_snapshot}
-use Rattle.hac_store.specs.Loading.{judging, loading, loading_area, loading_found, loading_kind, loading_root, reading_on, replaying, replaying_found, replaying_from}
+use Rattle.hac_model.proofs.HistoryLemmas.{history-none, history-step}
+use Rattle.hac_store.specs.Held.{LiveArea, after_event, after_payload, after_snapshot, area_by_kind, area_in, begun_with}
+use Rattle.hac_store.specs.Loading.{area_cost, cost_by, cost_with, judging, loading, loading_area, replaying}
 use Rattle.hac_store.specs.declared.areas.Begun.{Begun}
 use Rattle.hac_store.specs.declared.fault.StoreFault.{StoreFault}
 
--- one step of a log that is read
-replay-step : (n : ℕ) (s : State) (at : ℕ) (file : List ℕ) → replaying_from (suc n) s at file ≡ replaying_found s at (found_at at file) (λ new behind. replaying_from n new behind file)
-unfolding replaying_from
-replay-step n s at file = refl
+-- what follows a record costs something where it is sound
+abbrev reading_on : Result State Stop → (State → ℕ) → ℕ
+reading_on (Err stop) next = 0
+reading_on (Ok new) next = next new
 
-replay-none : (s : State) (at : ℕ) (file : List ℕ) → replaying_from zero s at file ≡ 0
-unfolding replaying_from
-replay-none s at file = refl
-
--- past the end of a file nothing is read
-replay-past : (n : ℕ) (s : State) (at : ℕ) (file : List ℕ) → length file ≤ at → replaying_from n s at file ≡ 0
-replay-past zero s at file past = replay-none s at file
-replay-past (suc n) s at file past =
-    let short : found_at at file ≡ Short = ap (found_in at) (drop_all at file past) in
-    replay-step n s at file ∙ ap (λ (f : Found). replaying_found s at f (λ new behind. replaying_from n new behind file)) short
-
--- what follows what was found, where it is the same behind each record that may be there
-reading-same : (r : Result State Stop) (next other : State → ℕ) → ((new : State) → next new ≡ other new) → reading_on r next ≡ reading_on r other
-reading-same (Ok new) next other same = same new
-reading-same (Err stop) next other same = refl
-
-found-same : (s : State) (at : ℕ) (found : Found) (next other : State → ℕ → ℕ)
-    → ((payload : List ℕ) (behind : ℕ) (new : State) → found ≡ Whole payload behind → next new behind ≡ other new behind)
-    → replaying_found s at found next ≡ replaying_found s at found other
-found-same s at Short next other same = refl
-found-same s at Closed next other same = refl
-found-same s at (Whole payload behind) next other same =
-    ap (λ (n : ℕ). judging s (spelled s.version payload) + n)
-    (reading-same (after_payload s at (spelled s.version payload)) (λ new. next new behind) (λ new. other new behind) (λ new. same payload behind new refl))
-
--- as many steps as there are bytes are enough
-replay-enough : (m n : ℕ) (s : State) (at : ℕ) (file : List ℕ) → length file ≤ at + m → length file ≤ at + n → replaying_from m s at file ≡ replaying_from n s at file
-replay-enough zero n s at file short enough = replay-past zero s at file (omega arith) ∙ sym (replay-past n s at file (omega arith))
-replay-enough (suc m) zero s at file short enough = replay-past (suc m) s at file (omega arith) ∙ sym (replay-past zero s at file (omega arith))
-replay-enough (suc m) (suc n) s at file short enough =
-    replay-step m s at file
-    ∙ found-same s at (found_at at file) (λ new behind. replaying_from m new behind file) (λ new behind. replaying_from n new behind file)
-    (λ payload behind new found. let whole = found-is-whole at behind payload file found in replay-enough m n new behind file (omega (arith, whole.0)) (omega (arith, whole.0)))
-    ∙ sym (replay-step n s at file)
-
-replay-rule : (s : State) (at : ℕ) (file : List ℕ) → replaying s at file ≡ replaying_found s at (found_at at file) (λ new behind. replaying new behind file)
-replay-rule s at file =
-    replay-enough (length file) (suc (length file)) s at file (omega arith) (omega arith) ∙ replay-step (length file) s at file
+replay-is : (s : State) (at : ℕ) (file : List ℕ) → replaying s at file ≡ cost_by s (log_at at file)
+unfolding replaying
+replay-is s at file = refl
 
 replay-closed : (s : State) (at : ℕ) (file : List ℕ) → found_at at file ≡ Closed → replaying s at file ≡ opening s
-replay-closed s at file found = replay-rule s at file ∙ ap (λ (f : Found). replaying_found s at f (λ new behind. replaying new behind file)) found
+replay-closed s at file found =
+    replay-is s at file ∙ ap (cost_by s) (log-found at file Closed found) ∙ ap (cost_with s (Some at)) (history-none s) ∙ zero-add (opening s)
+
+-- a record costs its event, and what is behind it costs as much as it does by itself
+tested-costs : (s : State) (at : ℕ) (log : Log) (event : Event) (b : Bool) (next : State → ℕ) → next (apply s event) ≡ cost_by (apply s event) log
+    → replay_cost s event + reading_on (after_event s at (if b then Ok event else Err (Unaccepted event))) next
+    ≡ cost_with s log.end (history_with (if b then Ok event else Err (Unaccepted event)) (λ e. history (apply s e) (payloads_of log.records)))
+tested-costs s at log event true next same = omega (arith, same)
+tested-costs s at log event false next same = omega arith
+
+payload-costs : (s : State) (at : ℕ) (log : Log) (r : Result Event ℕ) (next : State → ℕ) → ((new : State) → next new ≡ cost_by new log)
+    → judging s r + reading_on (after_payload s at r) next ≡ cost_with s log.end (history_with (event_spelled s r) (λ e. history (apply s e) (payloads_of log.records)))
+payload-costs s at log (Err offset) next same = refl
+payload-costs s at log (Ok event) next same = tested-costs s at log event (accepted s event) next (same (apply s event))
 
 replay-whole : (s : State) (at : ℕ) (file payload : List ℕ) (behind : ℕ) → found_at at file ≡ Whole payload behind
     → replaying s at file ≡ judging s (spelled s.version payload) + reading_on (after_payload s at (spelled s.version payload)) (λ new. replaying new behind file)
-replay-whole s at file payload behind found = replay-rule s at file ∙ ap (λ (f : Found). replaying_found s at f (λ new behind. replaying new behind file)) found
+replay-whole s at file payload behind found =
+    let rest = log_at behind file in
+    replay-is s at file ∙ ap (cost_by s) (log-found at file (Whole payload behind) found)
+    ∙ ap (cost_with s rest.end) (history-step s payload (payloads_of rest.records))
+    ∙ sym (payload-costs s at rest (spelled s.version payload) (λ new. replaying new behind file) (λ new. replay-is new behind file))
 
 -- so far so few questions were asked that those of the log from here on may follow
 abbrev pub Leaves : Option (List ℕ) → State → ℕ → State → ℕ → ℕ → ℕ → Type 0
@@ -81,11 +69,6 @@ Leaves seen old start new at first count = IfSome seen (λ file. count + replayi
 -- at most so many were asked as the log may take
 abbrev pub Within : Option (List ℕ) → State → ℕ → ℕ → ℕ → Type 0
 Within seen old start first count = IfSome seen (λ file. count ≤ first + replaying old start file)
-
--- none was asked yet
-pub leaves-first : (seen : Option (List ℕ)) (s : State) (at first : ℕ) → Leaves seen s at s at first first
-leaves-first None s at first = tt
-leaves-first (Some file) s at first = omega arith
 
 pub leaves-within : (seen : Option (List ℕ)) (old : State) (start : ℕ) (s : State) (at first count : ℕ) → Leaves seen old start s at first count → Within seen old start first count
 leaves-within None old start s at first count left = tt
@@ -116,32 +99,43 @@ leaves-stop (Some file) old start s at next payload first count more left tells 
 abbrev pub Continues : Result Begun StoreFault → ℕ → List ℕ → Type 0
 Continues result at file = IfOk result (λ begun. loading_area at file ≡ replaying begun.replay begun.at file)
 
-loads-alone : (version : Version) (at : ℕ) (file : List ℕ) (result : Result Begun StoreFault) → loading_area at file ≡ replaying (root_alone version) at file
+area-costs : (at : ℕ) (file : List ℕ) → loading_area at file ≡ area_cost (area_in (log_at at file))
+unfolding loading_area
+area-costs at file = refl
+
+loads-alone : (version : Version) (at : ℕ) (file : List ℕ) (result : Result Begun StoreFault) → area_in (log_at at file) ≡ begun_with (log_at at file) (root_alone version)
     → IfOk result (λ begun. begun ≡ record { replay = root_alone version; at = at }) → Continues result at file
-loads-alone version at file (Ok begun) leads is = leads ∙ ap (λ (b : Begun). replaying b.replay b.at file) (sym is)
+loads-alone version at file (Ok begun) leads is =
+    area-costs at file ∙ ap area_cost leads ∙ sym (replay-is (root_alone version) at file) ∙ ap (λ (b : Begun). replaying b.replay b.at file) (sym is)
 loads-alone version at file (Err why) leads is = tt
 
 pub loads-event : (at : ℕ) (file payload : List ℕ) (behind : ℕ) (version : Version) (result : Result Begun StoreFault) → found_at at file ≡ Whole payload behind → kind_of payload ≡ kind.Event version
     → IfOk result (λ begun. begun ≡ record { replay = root_alone version; at = at }) → Continues result at file
 loads-event at file payload behind version result found event is =
-    loads-alone version at file result (ap (loading_found at file) found ∙ ap (loading_kind at file payload behind) event) is
+    let first : Record = record { at = at; payload = payload } in
+    let here = log-found at file (Whole payload behind) found in
+    loads-alone version at file result
+    (ap area_in here ∙ ap (area_by_kind first (log_at behind file)) event ∙ ap (λ (log : Log). begun_with log (root_alone version)) (sym here)) is
 
 pub loads-state : (at : ℕ) (file payload : List ℕ) (behind : ℕ) (s : State) → found_at at file ≡ Whole payload behind → kind_of payload ≡ kind.State
     → after_snapshot at (spelled_snapshot payload) ≡ Ok s → loading_area at file ≡ replaying s behind file
 loads-state at file payload behind s found whole is =
-    ap (loading_found at file) found
-    ∙ ap (loading_kind at file payload behind) whole
-    ∙ ap (λ (r : Result State Stop). reading_on r (λ new. replaying new behind file)) is
+    let first : Record = record { at = at; payload = payload } in
+    area-costs at file ∙ ap (λ (log : Log). area_cost (area_in log)) (log-found at file (Whole payload behind) found)
+    ∙ ap (λ (k : PayloadKind). area_cost (area_by_kind first (log_at behind file) k)) whole
+    ∙ ap (λ (r : Result State Stop). area_cost (r >>= begun_with (log_at behind file))) is ∙ sym (replay-is s behind file)
 
 pub loads-closed : (seen : Option (List ℕ)) (at : ℕ) (result : Result Begun StoreFault) → TellsAt End at seen → IfOk result (λ begun. begun ≡ record { replay = empty; at = at })
     → IfSome seen (λ file. Continues result at file)
 loads-closed None at result tells is = tt
-loads-closed (Some file) at result tells is = loads-alone Two at file result (ap (loading_found at file) tells) is
+loads-closed (Some file) at result tells is =
+    let here = log-found at file Closed tells in
+    loads-alone Two at file result (ap area_in here ∙ ap (λ (log : Log). begun_with log empty) (sym here)) is
 
 -- the area of a root is what is read of a store
 load-root : (file : List ℕ) (here : Root) → root_of file ≡ Ok here → loading file ≡ loading_area here.start file
 unfolding loading
-load-root file here is = ap (loading_root file) is
+load-root file here is = ap (λ (r : Result Root Stop). area_cost (r >>= (λ root. area_in (log_at root.start file)))) is ∙ sym (area-costs here.start file)
 
 -- at most so many were asked as reading the store may take
 abbrev pub Loaded : Option (List ℕ) → ℕ → ℕ → Type 0

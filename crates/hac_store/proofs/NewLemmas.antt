@@ -18,7 +18,7 @@ use Rattle.hac_journal.proofs.LawLemmas.{closed-is-found}
 use Rattle.hac_model.specs.Run.Play.{Setting, new_setting}
 use Rattle.hac_model.specs.Tree.{empty}
 use Rattle.hac_store.specs.Creating.{IsReady}
-use Rattle.hac_store.specs.Held.{Log, area, held}
+use Rattle.hac_store.specs.Held.{Led, area, held}
 use Rattle.hac_store.specs.Stores.{IsNewOrNone, first_store, root_by}
 use Rattle.hac_store.specs.declared.creating.TheConstants.{NEW}
 use Rattle.hac_store.proofs.HeldLemmas.{held-area, held-parts, held-stop}
@@ -52,7 +52,7 @@ short-found at c (gate ∷ rest) setting same few is =
     (λ shut.
     let reported = sym (area-closed at c (ap (found_in at) same ∙ found-shut at gate rest shut)) ∙ is in
     let ends : record { state = empty; end = at } ≡ record { state = setting.state; end = setting.end } = cc in
-    ap (λ (l : Log). l.state) (sym ends))
+    ap (λ (l : Led). l.state) (sym ends))
     (cases_eq gate 1)
 
 -- a file that has no more bytes than a new store

@@ -17,14 +17,14 @@ use Rattle.hac_model.specs.Payload.States.{snapshot_payload, spelled_snapshot}
 use Rattle.hac_model.specs.declared.states.State.{State}
 use Rattle.hac_model.specs.declared.versions.Version.{Version}
 use Rattle.hac_store.specs.Faults.{of_root}
-use Rattle.hac_store.specs.Held.{Log, area, from_root, go_on, held, after_payload, log, with_root}
+use Rattle.hac_store.specs.Held.{Led, area, from_root, held, after_payload, log, with_root}
 use Rattle.hac_store.specs.Reading.{BeginsArea, Judges, ReadsLog}
 use Rattle.hac_store.specs.Stores.{Opens}
 use Rattle.hac_store.specs.declared.areas.Begun.{Begun}
 use Rattle.hac_store.specs.declared.fault.StoreFault.{StoreFault}
 use Rattle.hac_store.specs.declared.fault.StoreFault.TheVariants as fault
 use Rattle.hac_store.proofs.HeldLemmas.{held-area, held-root, setting_of}
-use Rattle.hac_store.proofs.LogLemmas.{log-closed, log-short, log-whole}
+use Rattle.hac_store.proofs.LogLemmas.{go_on, log-closed, log-short, log-whole}
 
 -- so far the log of a file was read as what it is from here on
 abbrev pub IsRead : Option (List ℕ) → State → ℕ → State → ℕ → Type 0
@@ -96,7 +96,7 @@ pub opens-ok : (seen : Option (List ℕ)) (here : Root) (s : State) (end : ℕ) 
 opens-ok None here s end root_is reads = tt
 opens-ok (Some file) here s end root_is reads = held-area file here (record { state = s; end = end }) root_is reads
 
-with-fault : (file : List ℕ) (here : Root) (r : Result Log Stop) (at : ℕ) → placed file r ≡ Err at → placed file (with_root here r) ≡ Err at
+with-fault : (file : List ℕ) (here : Root) (r : Result Led Stop) (at : ℕ) → placed file r ≡ Err at → placed file (with_root here r) ≡ Err at
 with-fault file here (Ok l) at is = absurd (cc)
 with-fault file here (Err stop.Short) at is = let same : length file ≡ at = cc in ap (λ (n : ℕ). Err n) same
 with-fault file here (Err (stop.BadAt place)) at is = let same : place ≡ at = cc in ap (λ (n : ℕ). Err n) same

@@ -1,15 +1,18 @@
 -- What is on a disk while a new store is made. Of a disk that tells nothing, nothing is said.
-use Rattle.std.specs.Prelude.{◌≡◌, ℕ, List, drop, take, None, Some, ⊤, Result, Ok, Err, IfOk, IfSome, IsErr, OnOk}
+use Rattle.std.specs.Prelude.{◌≡◌, ◌⊎◌, ℕ, List, drop, take, None, Some, ⊤, Result, Ok, Err, IfOk, IfSome, IsErr, OnOk}
 use Rattle.std.specs.declared.option.Option.{Option}
+use Rattle.hac_disk.specs.Exchanges.{Exchange}
+use Rattle.hac_disk.specs.Exchanges as exchange
 use Rattle.hac_disk.specs.Images.{IsQuiet, IsSettled, LeavesOnly}
 use Rattle.hac_disk.specs.Seen.{DiskSeen}
 use Rattle.hac_model.specs.Run.Play.{new_setting}
 use Rattle.hac_outside.specs.Causes.{HasCause, ReportsFault}
+use Rattle.hac_outside.specs.declared.fault.Failed.{Failed}
 use Rattle.hac_store.specs.Faults.{is_disk_fault}
 use Rattle.hac_store.specs.Held.{held}
 use Rattle.hac_store.specs.Stores.{Bears, IsNewOrNone, Seen, Stands, first_store}
 use Rattle.hac_store.specs.declared.fault.StoreFault.{StoreFault}
-use Rattle.hac_store.specs.declared.fault.StoreFault.TheVariants.{NotStore, AlreadyStore, Full, Memory}
+use Rattle.hac_store.specs.declared.fault.StoreFault.TheVariants.{Disk, NotStore, AlreadyStore, Full, Memory}
 use Rattle.hac_store.specs.declared.creating.TheConstants.{NEW}
 
 -- why no store is made, given why none was read
@@ -41,6 +44,17 @@ pub record WritesNew {T E : Type 0} (P : List ℕ → Type 0) (old new : DiskSee
   pub any_moment : IfSome old.contents (λ _. LeavesOnly old new IsNewOrNone)
   pub attached : new.attached ≡ old.attached
   pub cause : HasCause old.faults new.faults result
+
+-- The first call synced the disk, and since then a crash leaves only what has P.
+pub record SyncedFirst {D : Type 0} (seen : D → DiskSeen) (does : Exchange → D → D → Type 0) (P : List ℕ → Type 0) (old new : D) : Type 0 where
+  pub mid : D
+  pub synced : does (exchange.Sync (Ok tt)) old mid
+  pub since : LeavesOnly (seen mid) (seen new) P
+
+-- so it is, or that call failed and was the only one
+abbrev pub SyncsFirst : {D T : Type 0} → (D → DiskSeen) → (Exchange → D → D → Type 0) → (List ℕ → Type 0) → D → D → Result T StoreFault → Type 0
+SyncsFirst seen does P old new result =
+    SyncedFirst seen does P old new ⊎ ((result ≡ Err Disk) × ((why : Failed) × does (exchange.Sync (Err why)) old new))
 
 -- What making a store does: after Ok the disk holds the root alone and bears the first store, and where memory ran out
 -- nothing was written.

@@ -4,7 +4,7 @@ use Rattle.hac_checkpoint.specs.Roots.{placed}
 use Rattle.hac_checkpoint.specs.declared.heads.Stop.{Stop}
 use Rattle.hac_checkpoint.specs.declared.heads.Stop.TheVariants as stop
 use Rattle.hac_model.specs.declared.states.State.{State}
-use Rattle.hac_store.specs.Held.{Log, log}
+use Rattle.hac_store.specs.Held.{Led, log}
 use Rattle.hac_store.specs.declared.areas.Begun.{Begun}
 use Rattle.hac_store.specs.declared.fault.StoreFault.{StoreFault}
 use Rattle.hac_store.specs.declared.fault.StoreFault.TheVariants.{NotStore, Memory}
@@ -17,7 +17,7 @@ Judges (Err Memory) new wanted = ⊤
 Judges (Err other) new wanted = ⊥
 
 -- the log led to this state and ends there, or its first wrong byte is at this place
-abbrev pub ReadsLog : Result ℕ StoreFault → State → List ℕ → Result Log Stop → Type 0
+abbrev pub ReadsLog : Result ℕ StoreFault → State → List ℕ → Result Led Stop → Type 0
 ReadsLog (Ok end) new file wanted = wanted ≡ Ok (record { state = new; end = end })
 ReadsLog (Err (NotStore at)) new file wanted = placed file wanted ≡ Err at
 ReadsLog (Err other) new file wanted = ⊤
@@ -30,7 +30,7 @@ JudgesState (Err Memory) wanted = ⊤
 JudgesState (Err other) wanted = ⊥
 
 -- an area holds what its log makes of this state from that place on, or its first wrong byte is at this place
-abbrev pub BeginsArea : Result Begun StoreFault → List ℕ → Result Log Stop → Type 0
+abbrev pub BeginsArea : Result Begun StoreFault → List ℕ → Result Led Stop → Type 0
 BeginsArea (Ok begun) file wanted = wanted ≡ log begun.replay begun.at file
 BeginsArea (Err (NotStore at)) file wanted = placed file wanted ≡ Err at
 BeginsArea (Err other) file wanted = ⊤

@@ -5,7 +5,8 @@ ghost use Rattle.hac_disk.specs.Images.{IsQuiet, IsSettled, LeavesOnly};
 ghost use Rattle.hac_disk.specs.Contents.{HasByteAt};
 ghost use Rattle.hac_journal.specs.Appending.{ClosedAt};
 ghost use Rattle.hac_model.specs.Run.Play.{new_setting};
-ghost use Rattle.hac_store.specs.Creating.{Creates, HoldsNone, IsReady, WritesNew, none_in};
+ghost use Rattle.hac_store.specs.Creating.{Creates, HoldsNone, IsReady, SyncsFirst, WritesNew};
+ghost use Rattle.hac_store.specs.Creating.{none_in};
 ghost use Rattle.hac_store.specs.Held.{held};
 ghost use Rattle.hac_store.specs.Loading.{loading};
 ghost use Rattle.hac_store.specs.Stores.{Bears, IsNewOrNone, Stands, first_store};
@@ -45,6 +46,9 @@ impl Store {
         ensures any_moment { IfSome (D.seen disk.old).contents (λ file. IsErr (held file) →
             LeavesOnly (D.seen disk.old) (D.seen disk.new)
             (λ c. (D.seen disk.old).image c ⊎ IsNewOrNone c)) }
+        // What might have been left before is gone with the opening sync.
+        ensures synced { IfSome (D.seen disk.old).contents (λ file. IsErr (held file) →
+            SyncsFirst D.seen D.does IsNewOrNone disk.old disk.new result) }
         ensures probes { IfSome (D.seen disk.old).contents
             (λ file. probes.new ≤ probes.old + loading file) }
     {

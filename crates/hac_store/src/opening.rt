@@ -5,7 +5,8 @@ ghost use Rattle.hac_outside.specs.Causes.{ReportsFault};
 ghost use Rattle.hac_disk.specs.Images.{IsQuiet, IsSettled};
 ghost use Rattle.hac_disk.specs.Contents.{HasByteAt};
 ghost use Rattle.hac_model.specs.Payload.Payloads.{spelled};
-ghost use Rattle.hac_model.specs.Tree.Costs.{opening, weight};
+ghost use Rattle.hac_model.specs.Run.History.{replay_cost};
+ghost use Rattle.hac_model.specs.Tree.Costs.{opening};
 ghost use Rattle.hac_model.specs.Tree.Sessions.{is_stored};
 ghost use Rattle.hac_model.specs.Tree.Valid.{IsValid};
 ghost use Rattle.hac_store.specs.Faults.{is_disk_fault};
@@ -207,7 +208,7 @@ fn accept<L: Ledger>(
     requires place { at + 5 < 2 ^ 64 }
     requires stored { IsTrue (is_stored event) }
     ensures judges { Judges result replay.new (after_payload replay.old at (Ok event)) }
-    ensures probes { probes.new ≤ probes.old + weight replay.old }
+    ensures probes { probes.new ≤ probes.old + replay_cost replay.old event }
 {
     if replay.happen(event, probes)? {
         Ok(())

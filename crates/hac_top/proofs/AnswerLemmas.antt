@@ -3,11 +3,11 @@ use Rattle.std.proofs.Common.{◌≡◌, ℕ, ◌≤◌, rules, true, false, Boo
 use Rattle.std.specs.Prelude.{◌⊎◌, ◌||◌, Option, None, Some, Result, Ok, Err, IfErr, OnOk}
 use Rattle.std.specs.Option.{IfSome}
 use Rattle.hac_disk.specs.Seen.{DiskSeen, IsLawful}
-use Rattle.hac_disk.proofs.Moments.{then_run, weaken}
+use Rattle.hac_disk.proofs.Moments.{quiet_twice, then_run, weaken}
 use Rattle.hac_model.specs.Run.Costs.{answering_line}
 use Rattle.hac_model.specs.Tree.Costs.{costs}
 use Rattle.hac_model.specs.Tree.Events.{apply_all}
-use Rattle.hac_model.specs.Run.Play.{Setting, Turn, after_events, all_events, has_refusal, is_refused, nothing_given, refused_turn, steps_behind, stored_setting, turns_text}
+use Rattle.hac_model.specs.Run.Play.{Setting, Turn, after_events, all_events, has_refusal, is_refused, nothing_given, refused_turn, steps_behind, turns_text}
 use Rattle.hac_model.specs.Script.Lines.{Item}
 use Rattle.hac_model.specs.Tree.Sessions.{stored}
 use Rattle.hac_model.specs.declared.replies.Refusal.{Refusal}
@@ -24,7 +24,7 @@ use Rattle.hac_store.specs.declared.fault.StoreFault.TheVariants as fault
 use Rattle.hac_top.specs.Asking.{given_by}
 use Rattle.hac_top.specs.Crashes.{Holds, IsTreeAfter, IsTreeOfAnswered}
 use Rattle.hac_top.specs.Ends.{is_disk_fault, store_status}
-use Rattle.hac_top.specs.Replies.{CutsWriting, StopsWriting, WritesAll}
+use Rattle.hac_top.specs.Replies.{CutsWriting, WritesAll}
 use Rattle.hac_top.specs.Storing.{AnswersItems, AnswersLine, AreTurns, IsBare, IsTurnOf, StopsAnswer, StopsCommand, StopsSteps, Stores, StoresItem, StoresSteps, StoresTurn}
 use Rattle.hac_top.specs.Ticking.{command_events, told_turn}
 use Rattle.hac_model.specs.Script.Printed.{text}
@@ -36,7 +36,9 @@ use Rattle.hac_top.specs.declared.status.Status.{Status}
 use Rattle.hac_top.specs.declared.status.Status.TheVariants.{WriteFault, DiskFault, Memory}
 use Rattle.hac_top.proofs.CostLemmas.{line-cost}
 use Rattle.hac_top.proofs.CrashLemmas.{holds-weaker, tree-more, tree-then}
+use Rattle.hac_top.specs.Writes.{GrowsBy}
 use Rattle.hac_top.proofs.StoringLemmas.{stores-nothing, told-since}
+use Rattle.hac_top.proofs.WriteLemmas.{both-none, grows-none, grows-same, grows-then}
 use Rattle.hac_top.proofs.TickLemmas.{ticked, turn-ticks}
 use Rattle.hac_top.proofs.AskLemmas.{fails-same}
 use Rattle.std.proofs.KnownBytes.{Appends-nil}
@@ -97,10 +99,10 @@ told-alike P Q None then_q p = search rules
 told-alike P Q (Some contents) then_q p = then_q contents p
 
 -- a store that went on by events, and then by more
-stores-then : (old mid new : DiskSeen) (z w : Setting) (xs ys : List Event) (failed : Bool) → Stores old mid z xs false →
+stores-then : (old mid new : DiskSeen) (z w v : Setting) (xs ys : List Event) (failed : Bool) → z.generation ≤ w.generation → w.generation ≤ v.generation → Stores old mid z w xs false →
     (Stands old z → Stands mid w) → stored w.state ≡ apply_all (stored z.state) xs →
-    Stores mid new w ys failed → Stores old new z (xs ++ ys) failed
-stores-then old mid new z w xs ys failed before stands led after =
+    Stores mid new w v ys failed → Stores old new z v (xs ++ ys) failed
+stores-then old mid new z w v xs ys failed rises later before stands led after =
     let all = Holds (IsTreeAfter (stored z.state) (xs ++ ys)) in
     record {
       moments = λ stood.
@@ -109,29 +111,19 @@ stores-then old mid new z w xs ys failed before stands led after =
           (λ c holds. holds-weaker (IsTreeAfter (stored z.state) xs) (IsTreeAfter (stored z.state) (xs ++ ys)) c (λ s tree. tree-more (stored z.state) s xs ys tree) holds) (before.moments stood))
           (weaken mid new (Holds (IsTreeAfter (stored w.state) ys)) all
           (λ c holds. holds-weaker (IsTreeAfter (stored w.state) ys) (IsTreeAfter (stored z.state) (xs ++ ys)) c (λ s tree. tree-then (stored z.state) (stored w.state) s xs ys led tree) holds) (after.moments (stands stood)));
+      idle = λ nothing.
+          let none = both-none xs ys nothing.1 in
+          quiet_twice old mid new (before.idle (omega (arith, rises, later, nothing.0), none.0)) (after.idle (omega (arith, rises, later, nothing.0), none.1));
+      settled = λ fine settled. after.settled fine (before.settled refl settled);
       names = after.names ∙ before.names;
       reported = told-since failed old.faults mid.faults new.faults before.reported after.reported;
     }
 
 -- the same events, in other words
-stores-same : (old new : DiskSeen) (setting : Setting) (xs ys : List Event) (failed : Bool) → xs ≡ ys → Stores old new setting xs failed → Stores old new setting ys failed
-stores-same old new setting xs ys failed same stores = subst (λ (es : List Event). Stores old new setting es failed) same stores
+stores-same : (old new : DiskSeen) (setting last : Setting) (xs ys : List Event) (failed : Bool) → xs ≡ ys → Stores old new setting last xs failed → Stores old new setting last ys failed
+stores-same old new setting last xs ys failed same stores = subst (λ (es : List Event). Stores old new setting last es failed) same stores
 
 -- A reply, and the steps behind it.
-
--- the reply couldn't be written whole
-pub reply-stops : (disk : DiskSeen) → IsLawful disk → (store : Seen) (tick : ℕ) (reply : Reply) (sink sink_after : SinkSeen) (status : Status) →
-    StopsWriting status sink sink_after (turns_text (told_turn tick store.setting reply ∷ [])) →
-    StopsAnswer disk disk store.setting sink sink_after (told_turn tick store.setting reply ∷ []) status
-reply-stops disk lawful store tick reply sink sink_after WriteFault told =
-    inl (record {
-      replies = told;
-      stored = λ _ stands c left. record { kept = stored_setting store.setting; is = stands.each c left; state = refl };
-      stores = stores-nothing disk lawful store.setting [];
-    })
-reply-stops disk lawful store tick reply sink sink_after Memory told =
-    inl (record { replies = told; stored = λ write. cc; stores = stores-nothing disk lawful store.setting [] })
-reply-stops disk lawful store tick reply sink sink_after other told = absurd told
 
 module _ (old new : DiskSeen) (store after : Seen) (tick : ℕ) (reply : Reply) (sink sink_after : SinkSeen) (told : WritesAll sink sink_after (turns_text (told_turn tick store.setting reply ∷ []))) where
   -- all steps were stored
@@ -140,8 +132,16 @@ module _ (old new : DiskSeen) (store after : Seen) (tick : ℕ) (reply : Reply) 
   steps-end went =
       record {
         replies = told;
-        on = went.ok;
-        stores = stores-same old new store.setting (steps_behind tick store.setting) (all_events (told_turn tick store.setting reply ∷ [])) false (sym (told-events tick store.setting reply)) went.stores;
+        on = record {
+          setting = went.ok.setting;
+          intact = went.ok.intact;
+          place = went.ok.place;
+          stands = went.ok.stands;
+          grows =
+              subst (λ (es : List Event). GrowsBy old.contents new.contents store.setting (after_events store.setting (steps_behind tick store.setting)) es) (sym (told-events tick store.setting reply)) went.ok.grows;
+        };
+        stores =
+            stores-same old new store.setting (after_events store.setting (steps_behind tick store.setting)) (steps_behind tick store.setting) (all_events (told_turn tick store.setting reply ∷ [])) false (sym (told-events tick store.setting reply)) went.stores;
       }
 
   -- or some
@@ -156,7 +156,8 @@ module _ (old new : DiskSeen) (store after : Seen) (tick : ℕ) (reply : Reply) 
             let run = went.stores.moments stands in
             holds-weaker (IsTreeAfter (stored store.setting.state) (steps_behind tick store.setting)) (IsTreeOfAnswered (stored store.setting.state) (told_turn tick store.setting reply ∷ []) 1) c (some-steps tick store.setting reply)
             (run.each c (lawful.counts_now old.moment c run.later left));
-        stores = stores-same old new store.setting (steps_behind tick store.setting) (all_events (told_turn tick store.setting reply ∷ [])) (is_disk_fault (store_status reason)) (sym (told-events tick store.setting reply)) went.stores;
+        stores =
+            stores-same old new store.setting (after_events store.setting (steps_behind tick store.setting)) (steps_behind tick store.setting) (all_events (told_turn tick store.setting reply ∷ [])) (is_disk_fault (store_status reason)) (sym (told-events tick store.setting reply)) went.stores;
       })
     where
       stops : (reason : StoreFault) → StopsSteps reason → StopsCommand (store_status reason)
@@ -166,6 +167,10 @@ module _ (old new : DiskSeen) (store after : Seen) (tick : ℕ) (reply : Reply) 
 
 -- A command, and its reply with the steps behind it.
 
+-- the steps behind a turn begin no new area
+stores-ticked : (old new : DiskSeen) (setting : Setting) (tick : ℕ) (turn : Turn) (events : List Event) (failed : Bool) → Stores old new setting turn.after events failed → Stores old new setting (ticked tick turn).after events failed
+stores-ticked old new setting tick turn events failed stores = record { moments = stores.moments; idle = stores.idle; settled = stores.settled; names = stores.names; reported = stores.reported }
+
 -- no reply was told
 command-stops : (old new : DiskSeen) (before after : Seen) (tick : ℕ) (turn : Turn) (sink : SinkSeen) (status : Status) → all_events (turn ∷ []) ≡ turn.events → StoresTurn old new before after turn (Err status) →
     StopsAnswer old new before.setting sink sink (ticked tick turn ∷ []) status
@@ -173,7 +178,7 @@ command-stops old new before after tick turn sink status bare went =
     inl (record {
       replies = nothing status went.err;
       stored = λ write. absurd (no-write status went.err write);
-      stores = stores-same old new before.setting (all_events (turn ∷ [])) (command_events (ticked tick turn ∷ [])) (is_disk_fault status) own went.stores;
+      stores = stores-ticked old new before.setting tick turn (command_events (ticked tick turn ∷ [])) (is_disk_fault status) (stores-same old new before.setting turn.after (all_events (turn ∷ [])) (command_events (ticked tick turn ∷ [])) (is_disk_fault status) own went.stores);
     })
   where
     own : all_events (turn ∷ []) ≡ command_events (ticked tick turn ∷ [])
@@ -199,9 +204,15 @@ module _ (old mid new : DiskSeen) (before store after : Seen) (turn : Turn) (rep
   all-events : turn.events ++ all_events (told_turn tick store.setting reply ∷ []) ≡ all_events (ticked tick turn ∷ [])
   all-events = ap (λ (es : List Event). turn.events ++ es) (told-events tick store.setting reply ∙ ap (steps_behind tick) went.ok.on.setting) ∙ sym (ticked-events tick turn)
 
-  stores-on : (more : List Event) (failed : Bool) → Stores mid new store.setting more failed → Stores old new before.setting (turn.events ++ more) failed
+  -- what the turn leaves with its steps
+  last-is : (told_turn tick store.setting reply).after ≡ (ticked tick turn).after
+  last-is = ap (λ (z : Setting). after_events z (steps_behind tick z)) went.ok.on.setting
+
+  stores-on : (more : List Event) (failed : Bool) → Stores mid new store.setting (told_turn tick store.setting reply).after more failed → Stores old new before.setting (ticked tick turn).after (turn.events ++ more) failed
   stores-on more failed stores =
-      stores-then old mid new before.setting store.setting turn.events more failed (stores-same old mid before.setting (all_events (turn ∷ [])) turn.events false own went.stores) went.ok.on.stands led-on stores
+      subst (λ (z : Setting). Stores old new before.setting z (turn.events ++ more) failed) last-is
+      (stores-then old mid new before.setting store.setting (told_turn tick store.setting reply).after turn.events more failed (omega (arith, went.ok.on.grows.later, ap (λ (z : Setting). z.generation) went.ok.on.setting)) (omega arith)
+      (subst (λ (z : Setting). Stores old mid before.setting z turn.events false) (sym went.ok.on.setting) (stores-same old mid before.setting turn.after (all_events (turn ∷ [])) turn.events false own went.stores)) went.ok.on.stands led-on stores)
 
   then-told : AnswersLine mid new store after sink sink_after (told_turn tick store.setting reply ∷ []) →
       AnswersLine old new before after sink sink_after (ticked tick turn ∷ [])
@@ -213,9 +224,13 @@ module _ (old mid new : DiskSeen) (before store after : Seen) (turn : Turn) (rep
           intact = answers.on.intact ∙ went.ok.on.intact;
           place = answers.on.place;
           stands = λ stands. answers.on.stands (went.ok.on.stands stands);
+          grows =
+              grows-same old.contents new.contents before.setting (told_turn tick store.setting reply).after (ticked tick turn).after (turn.events ++ all_events (told_turn tick store.setting reply ∷ [])) (all_events (ticked tick turn ∷ [])) last-is all-events
+              (grows-then old.contents mid.contents new.contents before.setting store.setting (told_turn tick store.setting reply).after turn.events (all_events (told_turn tick store.setting reply ∷ []))
+              (subst (λ (z : Setting). GrowsBy old.contents mid.contents before.setting z turn.events) (sym went.ok.on.setting) went.ok.on.grows) answers.on.grows);
         };
         stores =
-            stores-same old new before.setting (turn.events ++ all_events (told_turn tick store.setting reply ∷ [])) (all_events (ticked tick turn ∷ [])) false all-events
+            stores-same old new before.setting (ticked tick turn).after (turn.events ++ all_events (told_turn tick store.setting reply ∷ [])) (all_events (ticked tick turn ∷ [])) false all-events
             (stores-on (all_events (told_turn tick store.setting reply ∷ [])) false answers.stores);
       }
 
@@ -250,7 +265,7 @@ module _ (old mid new : DiskSeen) (before store after : Seen) (turn : Turn) (rep
             holds-weaker (IsTreeOfAnswered (stored store.setting.state) (told_turn tick store.setting reply ∷ []) 1) (IsTreeOfAnswered (stored before.setting.state) (ticked tick turn ∷ []) 1) c told-tree
             (stop.left (went.ok.on.stands stands) c left);
         stores =
-            stores-same old new before.setting (turn.events ++ all_events (told_turn tick store.setting reply ∷ [])) (all_events (ticked tick turn ∷ [])) (is_disk_fault status) all-events
+            stores-same old new before.setting (ticked tick turn).after (turn.events ++ all_events (told_turn tick store.setting reply ∷ [])) (all_events (ticked tick turn ∷ [])) (is_disk_fault status) all-events
             (stores-on (all_events (told_turn tick store.setting reply ∷ [])) (is_disk_fault status) stop.stores);
       })
 
@@ -356,8 +371,8 @@ none-told disk lawful spaces store sink tick was probes place =
       refused = sym (or-none was);
       ok = record {
         replies = record { written = Appends-nil sink.written; passed = λ none. none; faults = refl };
-        on = record { setting = refl; intact = refl; place = place; stands = λ stands. stands };
-        stores = stores-nothing disk lawful store.setting [];
+        on = record { setting = refl; intact = refl; place = place; stands = λ stands. stands; grows = grows-none disk.contents store.setting };
+        stores = stores-nothing disk lawful store.setting store.setting [];
       };
       err = tt;
     }

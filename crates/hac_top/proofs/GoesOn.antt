@@ -2,7 +2,7 @@
 use Rattle.std.proofs.Common.{◌≡◌, ℕ, ◌+◌, ◌≤◌, false, Bool, List, [], ◌++◌, length, take, Option}
 use Rattle.std.specs.Option.{IfSome}
 use Rattle.std.specs.Io.KnownBytes.{Appends}
-use Rattle.hac_disk.specs.Images.{LeavesOnly}
+use Rattle.hac_disk.specs.Images.{IsQuiet, IsSettled, LeavesOnly}
 use Rattle.hac_disk.specs.Seen.{DiskSeen}
 use Rattle.hac_outside.specs.Known.{Known}
 use Rattle.hac_outside.specs.Seen.{SinkSeen}
@@ -19,6 +19,7 @@ use Rattle.hac_top.specs.Crashes.{Holds, IsTreeAfter}
 use Rattle.hac_top.specs.Run.{Outside, given_after}
 use Rattle.hac_top.specs.Storing.{IsUsable}
 use Rattle.hac_top.specs.TakenLines.{IsLine, LeavesSource}
+use Rattle.hac_top.specs.Writes.{AreIdle, GrowsBy}
 
 -- the turns of whole lines, and of one line behind them
 abbrev pub turns_of : Given → Setting → List ℕ → List ℕ → List Turn
@@ -51,6 +52,10 @@ pub record IsPlayed (contents : Contents) (met : List (Option (List ℕ))) (tick
   pub askable : AreAskable (given_by contents met tick) first (script goes.played ++ first_items goes.last)
   pub asks : now.probes ≤ before.probes + lines_cost (given_by contents met tick) first (take (length answered) (script bytes))
 
+-- what was taken of the bytes of a source, the first ones
+abbrev pub TookFirst : List ℕ → List ℕ → Type 0
+TookFirst bytes pending = (taken : List ℕ) × (bytes ≡ taken ++ pending)
+
 -- Between two lines no call of the source, the sink or the disk has failed, and all was passed on. The disk stands for
 -- what the lines so far left, and a crash since the run began leaves the tree after some of the events of their turns.
 pub record RunsOn (old disk : DiskSeen) (tick : ℕ) (first : Setting) (before now : Outside) (spaces spaces_now : SpacesSeen) (reader : Reading) (store : Seen) (refused : Bool) : Type 0 where
@@ -60,11 +65,16 @@ pub record RunsOn (old disk : DiskSeen) (tick : ℕ) (first : Setting) (before n
   pub leads : stored store.setting.state ≡ apply_all (stored first.state) (all_events answered)
   pub goes : IfSome spaces.contents (λ contents.
       Known (λ bytes pending. IsPlayed contents met tick first bytes pending reader.ended store.setting refused before now answered) before.source.left (pending reader now.source.left))
+  pub took : Known TookFirst before.source.left (pending reader now.source.left)
   pub reads : IsReaderOf reader now.source
   pub source : LeavesSource false fresh_reader reader before.source now.source
   pub passed : before.sink.held_back ≡ 0 → now.sink.held_back ≡ 0
   pub wrote : now.sink.faults ≡ before.sink.faults
   pub usable : IsUsable disk store
+  pub setting_is : store.setting ≡ left_by first answered
+  pub grows : GrowsBy old.contents disk.contents first (left_by first answered) (all_events answered)
+  pub still : AreIdle first answered → IsQuiet old disk
+  pub settled : IsSettled old → IsSettled disk
   pub stands : Stands old first → Stands disk store.setting
   pub moments : Stands old first → LeavesOnly old disk (Holds (IsTreeAfter (stored first.state) (all_events answered)))
   pub names : disk.attached ≡ old.attached

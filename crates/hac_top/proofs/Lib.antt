@@ -5,8 +5,10 @@ pub mod AskLemmas
 pub mod TickLemmas
 pub mod AnswerLemmas
 pub mod ItemLemmas
+pub mod WriteLemmas
 pub mod StoringLemmas
 pub mod TakenLemmas
+pub mod SourceLemmas
 pub mod ReplyLemmas
 pub mod GoesOn
 pub mod RunLemmas

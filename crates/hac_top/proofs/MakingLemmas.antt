@@ -1,6 +1,6 @@
 -- A script that is drawn from a number is played, and what it left is told.
 use Rattle.std.proofs.Common.{◌≡◌, ◌∙◌, ℕ, ◌+◌, Bool, true, false, true≢false, ◌≤◌, List, Option, None, Some, refl, sym, ap, subst, arith, rules}
-use Rattle.std.specs.Prelude.{⊤, Result, Ok, Err, IfOk, IfErr, OnOk, is_some}
+use Rattle.std.specs.Prelude.{⊤, Result, Ok, Err, IfOk, IfErr, OnOk}
 use Rattle.std.specs.Option.{IfSome}
 use Rattle.hac_outside.specs.Causes.{ReportsFault, Rose}
 use Rattle.hac_outside.specs.Seen.{SinkSeen}
@@ -21,6 +21,7 @@ use Rattle.hac_top.specs.Run.{Ends, Outside, PlaysOn, outside}
 use Rattle.hac_top.specs.Storing.{IsUsable}
 use Rattle.hac_top.specs.declared.status.Status.{Status}
 use Rattle.hac_top.specs.declared.status.Status.TheVariants.{Done, SomeRefused, WriteFault, Memory}
+use Rattle.hac_disk.specs.Images.{IsQuiet}
 use Rattle.hac_disk.specs.Seen.{DiskSeen, IsLawful}
 use Rattle.hac_store.specs.Stores.{Seen, Stands}
 use Rattle.hac_top.proofs.GoesOn.{fresh_reader}
@@ -73,12 +74,6 @@ tells-by true (Err other) s before after told = absurd told
 tells-by false (Err WriteFault) s before after told = told
 tells-by false (Err Memory) s before after told = told
 tells-by false (Err other) s before after told = absurd told
-
-pub tells-of : (played told : Result Bool Status) (s : State) (before after : SinkSeen) → IfErr played (λ stop. IsFinished stop → ⊥) → TellsLeft played told s before after
-    → Tells (end_status played) (end_status told) s before after
-tells-of (Ok refused) told s before after stops left = tells-by refused told s before after left
-tells-of (Err stop) told s before after stops left =
-    subst (λ (r : Result Bool Status). Tells stop (end_status r) s before after) (sym left.0) (tells-stop stop s before after stops left.1)
 
 -- ---- how the run ends then
 
@@ -244,11 +239,11 @@ makes-none asked old new before after spaces left premise status number unread r
 
 -- a store was opened, and the script was played on it
 pub makes-opened : (asked : Options) (old mid new : DiskSeen) → IsLawful new → (setting : Setting) (before after : Outside) (spaces left : SpacesSeen) (status : Status) (number mid_probes : ℕ) →
-    MakesStore mid new asked.tick setting number before.sink after.sink spaces left mid_probes after.probes status → mid.faults ≡ old.faults → after.source ≡ before.source →
+    MakesStore mid new asked.tick setting number before.sink after.sink spaces left mid_probes after.probes status → mid.faults ≡ old.faults → (asked.fresh ≡ false → IsQuiet old mid) → after.source ≡ before.source →
     IfSome old.contents (λ f. opening_outcome asked.fresh (held f) ≡ Ok setting) → IfSome old.contents (λ f. mid_probes ≤ before.probes + loading f) → IfSome old.contents (λ _. Stands mid setting) →
     IfSome old.contents (λ f. IfOk (opening_outcome asked.fresh (held f)) (Opening asked.fresh old mid)) →
     Makes number before after (RunsMade old new spaces left asked ⊤ status before.sink after.sink)
-makes-opened asked old mid new lawful setting before after spaces left status number mid_probes made quiet unread is few stands opening =
+makes-opened asked old mid new lawful setting before after spaces left status number mid_probes made quiet still unread is few stands opening =
     record {
       played = made.played;
       own = record {
@@ -262,7 +257,7 @@ makes-opened asked old mid new lawful setting before after spaces left status nu
       };
       unread = unread;
       says =
-          ran-opened-with asked.fresh asked.tick old mid new lawful setting made.own.before made.own.after before.probes spaces left made.played made.plays quiet
+          ran-opened-with asked.fresh asked.tick old mid new lawful setting made.own.before made.own.after before.probes spaces left made.played made.plays quiet still
           (λ given z script. Tells made.played status (left_by z (play given z script)).state before.sink after.sink) old.contents is (subst (λ (n : ℕ). IfSome old.contents (λ f. n ≤ before.probes + loading f)) (sym made.own.begins) few) stands opening (tells spaces.contents made.own.before.source.left made.own.script_is made.tells);
     }
   where
@@ -284,21 +279,16 @@ made-ends before after made = record {
   passed = made.passed;
 }
 
--- nothing is to be made
-pub makes-not : (make : Option ℕ) (P : ℕ → Type 0) → make ≡ None → IfSome make P
-makes-not None P is = search rules
-makes-not (Some number) P is = absurd (true≢false (ap is_some is))
-
 -- no store was opened
-pub made-unopened : (asked : Options) (old new : DiskSeen) → IsLawful new → (before : Outside) (now : ℕ) (spaces : SpacesSeen) (status : Status) → StopsOpening status → ReportsFault (is_disk_fault status) old.faults new.faults →
+pub made-unopened : (asked : Options) (old new : DiskSeen) → IsLawful new → (asked.fresh ≡ false → IsQuiet old new) → (before : Outside) (now : ℕ) (spaces : SpacesSeen) (status : Status) → StopsOpening status → ReportsFault (is_disk_fault status) old.faults new.faults →
     IfSome old.contents (λ f. IsOpened (Err status) (opening_outcome asked.fresh (held f))) → IfSome old.contents (λ f. now ≤ before.probes + loading f) →
     IfSome old.contents (λ f. IfOk (opening_outcome asked.fresh (held f)) (Opening asked.fresh old new)) →
     (make : Option ℕ) → IfSome make (λ number. Makes number before (record before { probes = now }) (RunsMade old new spaces spaces asked ⊤ status before.sink before.sink))
-made-unopened asked old new lawful before now spaces status stops told opened few opening make =
+made-unopened asked old new lawful still before now spaces status stops told opened few opening make =
     makes-all make (λ number. Makes number before (record before { probes = now }) (RunsMade old new spaces spaces asked ⊤ status before.sink before.sink))
     (λ number.
     makes-none asked old new before (record before { probes = now }) spaces spaces ⊤ status number refl
-    (ran-unopened asked old new lawful (own_outside number before.probes) now spaces (λ given setting script. Tells status status (left_by setting (play given setting script)).state before.sink before.sink)
+    (ran-unopened asked old new lawful still (own_outside number before.probes) now spaces (λ given setting script. Tells status status (left_by setting (play given setting script)).state before.sink before.sink)
     (λ given setting script. tells-none status _ before.sink (opening-unfinished status stops)) status stops told opened few opening))
 
 -- no space was attached

@@ -1,5 +1,5 @@
 -- What a crash leaves while a store is opened, and how a run ends, given how it was opened.
-use Rattle.std.proofs.Common.{◌≡◌, ◌⊎◌, ℕ, ◌+◌, ◌≤◌, true, false, Bool, List, [], length, refl, ap, sym, ◌∙◌, subst, arith, rules, inl, inr}
+use Rattle.std.proofs.Common.{◌≡◌, ◌⊎◌, ℕ, ◌+◌, ◌≤◌, true, false, Bool, List, [], length, refl, ap, sym, ◌∙◌, append-nil, subst, arith, rules, inl, inr}
 use Rattle.std.specs.Prelude.{⊤, Option, None, Some, Result, Ok, Err, IfOk, IsErr}
 use Rattle.std.specs.Option.{IfSome}
 use Rattle.hac_disk.specs.Images.{IsQuiet, IsSettled, LeavesOnly, Only}
@@ -21,14 +21,15 @@ use Rattle.hac_store.specs.Loading.{loading}
 use Rattle.hac_store.specs.Stores.{IsNewOrNone, Stands}
 use Rattle.hac_top.specs.Crashes.{Holds, IsOpened, IsTreeAfter, IsTreeOfAnswered, Reopens, StopsOpening, IsOfFile, opening_outcome}
 use Rattle.hac_top.specs.Ends.{IsFinished, IsOpenStatus, is_disk_fault}
-use Rattle.hac_top.specs.Run.{AnswersBy, Completes, Ends, HasBegun, IsFaultless, IsTreeOf, Outside, Played, Plays, PlaysStore, Ran, RunsAnd, once_open}
+use Rattle.hac_top.specs.Run.{AnswersBy, Completes, Ends, HasBegun, IsFaultless, IsTreeOf, Outside, Plays, PlaysStore, PlaysTold, Ran, RunsAnd, once_open}
 use Rattle.hac_top.specs.declared.status.Status.{Status}
 use Rattle.hac_top.specs.declared.status.Status.TheVariants.{Done, SomeRefused, ReadFault, WriteFault, DiskFault, NotStore, Memory, TooLong, AlreadyStore}
 use Rattle.hac_top.proofs.CrashLemmas.{all-answered, holds-weaker, reopens}
 use Rattle.hac_top.proofs.GoesOn.{turns_of}
 use Rattle.hac_top.proofs.LineLemmas.{both}
-use Rattle.hac_top.proofs.RunLemmas.{goes-first, nothing-stops, plays-stop, state-is, turns-are}
+use Rattle.hac_top.proofs.RunLemmas.{goes-first, nothing-stops, play-nothing, plays-stop, state-is, turns-are}
 use Rattle.hac_top.proofs.StoringLemmas.{told-since}
+use Rattle.hac_top.proofs.WriteLemmas.{writes-nothing, writes-since}
 
 -- a fact on the value that there is
 if-value : {E : Type 0} {T : Type 0} (r : Result T E) (P : T → Type 0) → ((z : T) → r ≡ Ok z → P z) → IfOk r P
@@ -158,11 +159,12 @@ not-begun ends before unfinished (inr (inr finished)) = unfinished finished
 
 -- a store was opened
 module _ (fresh : Bool) (tick : ℕ) (old mid new : DiskSeen) (lawful : IsLawful new) (setting : Setting) (before after : Outside) (begun : ℕ) (spaces left : SpacesSeen) (status : Status)
-    (plays : PlaysStore mid new tick setting before after spaces left status) (quiet : mid.faults ≡ old.faults) where
-  ran-from : (given : Given) (script : List ℕ) (opens : ℕ) → before.probes ≤ begun + opens → Stands mid setting → Opening fresh old mid setting → Played false given status setting script before after (Stands mid setting) new.image →
-      (Stands mid setting → LeavesOnly mid new (Holds (IsTreeOf given setting script))) →
+    (plays : PlaysStore mid new tick setting before after spaces left status) (quiet : mid.faults ≡ old.faults) (still : fresh ≡ false → IsQuiet old mid) where
+  ran-from : (given : Given) (script : List ℕ) (opens : ℕ) → before.probes ≤ begun + opens → Stands mid setting → Opening fresh old mid setting → PlaysTold given mid new setting script before after status →
       Ran fresh given status setting script (once_open opens (record before { probes = begun })) after old new (⊤ × IsFaultless before after old.faults new.faults)
-  ran-from given script opens few stands opening played moments =
+  ran-from given script opens few stands opening told =
+      let played = told.played in
+      let moments = told.moments in
       let events = all_events (play given setting script) in
       record {
         played = record {
@@ -173,6 +175,7 @@ module _ (fresh : Bool) (tick : ℕ) (old mid new : DiskSeen) (lawful : IsLawful
             answers = played.plays.answers;
             asks = omega (arith, few, played.plays.asks);
           };
+          wrote = λ kept. writes-since old mid new status setting (play given setting script) played.plays.replies.done (still kept) played.wrote;
           reopens = λ _ c left. reopens fresh (IsTreeOfAnswered (stored setting.state) (play given setting script) played.plays.replies.done) c (played.reopens stands c left);
           kept = λ _. played.kept stands;
         };
@@ -201,14 +204,13 @@ module _ (fresh : Bool) (tick : ℕ) (old mid new : DiskSeen) (lawful : IsLawful
     Says opens z script given =
         Ran fresh given status z script (once_open opens (record before { probes = begun })) after old new (⊤ × IsFaultless before after old.faults new.faults) × Q given z script
 
-    ran-told : (opens : ℕ) → before.probes ≤ begun + opens → (script : Option (List ℕ)) (o : Option Contents) → IfSome o (λ c. IfSome script (λ s. AreAskable (given_by c plays.met tick) setting (Script.script s))) →
-        IfSome o (λ c. IfSome script (λ s. Played false (given_by c plays.met tick) status setting s before after (Stands mid setting) new.image)) →
-        IfSome o (λ c. IfSome script (λ s. Stands mid setting → LeavesOnly mid new (Holds (IsTreeOf (given_by c plays.met tick) setting s)))) →
+    ran-told : (opens : ℕ) → before.probes ≤ begun + opens → (script : Option (List ℕ)) (o : Option Contents) →
+        IfSome o (λ c. IfSome script (λ s. PlaysTold (given_by c plays.met tick) mid new setting s before after status)) →
         IfSome o (λ c. IfSome script (λ s. Q (given_by c plays.met tick) setting s)) → Stands mid setting → Opening fresh old mid setting →
         IfSome script (λ s. IfSome o (λ c. (met : List (Option (List ℕ))) × AreMet spaces left (given_by c met tick) setting s × Says opens setting s (given_by c met tick)))
-    ran-told opens few None o askable played moments other stands opening = search rules
-    ran-told opens few (Some s) None askable played moments other stands opening = search rules
-    ran-told opens few (Some s) (Some c) askable played moments other stands opening = (plays.met, ran-met c s askable, (ran-from (given_by c plays.met tick) s opens few stands opening played moments, other))
+    ran-told opens few None o told other stands opening = search rules
+    ran-told opens few (Some s) None told other stands opening = search rules
+    ran-told opens few (Some s) (Some c) told other stands opening = (plays.met, ran-met c s told.askable, (ran-from (given_by c plays.met tick) s opens few stands opening told, other))
 
     pub ran-opened-with : (file : Option (List ℕ)) → IfSome file (λ f. opening_outcome fresh (held f) ≡ Ok setting) → IfSome file (λ f. before.probes ≤ begun + loading f) → IfSome file (λ _. Stands mid setting) →
         IfSome file (λ f. IfOk (opening_outcome fresh (held f)) (Opening fresh old mid)) → IfSome spaces.contents (λ c. IfSome before.source.left (λ s. Q (given_by c plays.met tick) setting s)) →
@@ -220,7 +222,7 @@ module _ (fresh : Bool) (tick : ℕ) (old mid new : DiskSeen) (lawful : IsLawful
         (λ script ran _.
         subst (λ (r : Result Setting Status). IfOk r (λ z. IfTold spaces left tick z script (Says (loading f) z script))) (sym is)
         (subst (λ (o : Option Contents). IfSome o (λ c. (met : List (Option (List ℕ))) × AreMet spaces left (given_by c met tick) setting script × Says (loading f) setting script (given_by c met tick))) (sym plays.asked.stay.contents) ran))
-        (ran-told (loading f) few before.source.left spaces.contents plays.askable plays.played plays.moments other stands (subst (λ (r : Result Setting Status). IfOk r (Opening fresh old mid)) is opening))
+        (ran-told (loading f) few before.source.left spaces.contents plays.told other stands (subst (λ (r : Result Setting Status). IfOk r (Opening fresh old mid)) is opening))
         (trivial before.source.left)
       where
         trivial : (l : Option (List ℕ)) → IfSome l (λ s. ⊤)
@@ -239,7 +241,7 @@ module _ (fresh : Bool) (tick : ℕ) (old mid new : DiskSeen) (lawful : IsLawful
       nothing (Some c) (Some s) = tt
 
 -- no store was opened: the run does nothing, and a crash leaves what it would have gone on from
-module _ (fresh : Bool) (tick : ℕ) (old new : DiskSeen) (lawful : IsLawful new) (before : Outside) (now : ℕ) where
+module _ (fresh : Bool) (tick : ℕ) (old new : DiskSeen) (lawful : IsLawful new) (still : fresh ≡ false → IsQuiet old new) (before : Outside) (now : ℕ) where
   pub ran-none : (given : Given) (faultless : Type 0) (ends : Status) (setting : Setting) (script : List ℕ) → Some script ≡ before.source.left → now ≤ before.probes → Opening fresh old new setting → ((done : ℕ) → AnswersBy given ends setting script done (Some script)) →
       (IsFinished ends → ⊥) → (faultless → Completes ends script) → Ran fresh given ends setting script before (record before { probes = now }) old new faultless
   ran-none given faultless ends setting script left_is few opening answers unfinished complete =
@@ -250,6 +252,7 @@ module _ (fresh : Bool) (tick : ℕ) (old new : DiskSeen) (lawful : IsLawful new
       record {
         played = record {
           plays = plays-stop given given setting ends Memory script script script false setting false before (record before { probes = now }) goes left_is (λ none. none) (nothing-stops script script refl) (answers (length done)) (λ n _. omega (arith, few));
+          wrote = λ kept. writes-nothing old new ends setting (play given setting script) done (still kept) (append-nil (play given setting []) ∙ play-nothing given setting);
           reopens = λ settles c left.
               let run = opening settles in
               reopens-weaker fresh (λ s. s ≡ stored setting.state) (IsTreeOfAnswered (stored setting.state) (play given setting script) (length done)) c
@@ -263,7 +266,7 @@ module _ (fresh : Bool) (tick : ℕ) (old new : DiskSeen) (lawful : IsLawful new
         complete = complete;
       }
 
-module _ (asked : Options) (old new : DiskSeen) (lawful : IsLawful new) (before : Outside) (now : ℕ) (spaces : SpacesSeen) where
+module _ (asked : Options) (old new : DiskSeen) (lawful : IsLawful new) (still : asked.fresh ≡ false → IsQuiet old new) (before : Outside) (now : ℕ) (spaces : SpacesSeen) where
   -- and whatever else is known of it
   pub ran-unopened : (Also : Given → Setting → List ℕ → Type 0) → ((given : Given) (setting : Setting) (script : List ℕ) → Also given setting script) → (ends : Status) → StopsOpening ends → ReportsFault (is_disk_fault ends) old.faults new.faults →
       IfSome old.contents (λ f. IsOpened (Err ends) (opening_outcome asked.fresh (held f))) → IfSome old.contents (λ f. now ≤ before.probes + loading f) →
@@ -278,7 +281,7 @@ module _ (asked : Options) (old new : DiskSeen) (lawful : IsLawful new) (before 
       none : (opens : ℕ) → now ≤ before.probes + opens → (given : Given) (ends : Status) (setting : Setting) (script : List ℕ) → Some script ≡ before.source.left → Opening asked.fresh old new setting → ((done : ℕ) → AnswersBy given ends setting script done (Some script)) → (IsFinished ends → ⊥) →
           (⊤ × IsFaultless before before old.faults new.faults → Completes ends script) → says opens setting script given ends
       none opens few given ends setting script left_is opening =
-          ran-none asked.fresh asked.tick old new lawful (once_open opens before) now given (⊤ × IsFaultless before before old.faults new.faults) ends setting script left_is few opening
+          ran-none asked.fresh asked.tick old new lawful still (once_open opens before) now given (⊤ × IsFaultless before before old.faults new.faults) ends setting script left_is few opening
 
       by : (opens : ℕ) → now ≤ before.probes + opens → (given : Given) (ends : Status) → StopsOpening ends → ReportsFault (is_disk_fault ends) old.faults new.faults → (setting : Setting) (script : List ℕ) → Some script ≡ before.source.left → (IsOfFile ends → Ok setting ≡ Err ends) → Opening asked.fresh old new setting →
           says opens setting script given ends

@@ -259,13 +259,13 @@ module _ (given later : Given) (first : Setting) where
       }
 
   -- a crash leaves what was answered then
-  pub played-stop : (stood : Type 0) (image : List ℕ → Type 0) (status why : Status) (s p l : List ℕ) (ended : Bool) (setting : Setting) (refused : Bool) (before after : Outside) (goes : Goes given later first s p ended setting refused before.sink after.sink) →
+  pub played-stop : (stood : Type 0) (image : List ℕ → Type 0) (writes : ℕ → Type 0) (status why : Status) (s p l : List ℕ) (ended : Bool) (setting : Setting) (refused : Bool) (before after : Outside) (goes : Goes given later first s p ended setting refused before.sink after.sink) →
       Some l ≡ after.source.left → (before.sink.held_back ≡ 0 → after.sink.held_back ≡ 0) → StopsIn why p l → AnswersBy given status first s (length (turns_of given first goes.played goes.last)) (Some l) →
       ((n : ℕ) → length (turns_of given first goes.played goes.last) ≤ n → after.probes ≤ before.probes + lines_cost given first (take (n + 1) (script s))) →
       (stood → (c : List ℕ) → image c → Holds (IsTreeOfAnswered (stored first.state) (play given first s) (length (turns_of given first goes.played goes.last))) c) →
-      (stood → IsFinished status → (c : List ℕ) → image c → held c ≡ Ok (stored_setting (left_by first (play given first s)))) → Played false given status first s before after stood image
-  played-stop stood image status why s p l ended setting refused before after goes left_is passed stops answers asks answered kept =
-      record { plays = plays-stop status why s p l ended setting refused before after goes left_is passed stops answers asks; reopens = answered; kept = kept }
+      (stood → IsFinished status → (c : List ℕ) → image c → held c ≡ Ok (stored_setting (left_by first (play given first s)))) → writes (length (turns_of given first goes.played goes.last)) → Played false given status first s before after stood image writes
+  played-stop stood image writes status why s p l ended setting refused before after goes left_is passed stops answers asks answered kept wrote =
+      record { plays = plays-stop status why s p l ended setting refused before after goes left_is passed stops answers asks; wrote = wrote; reopens = answered; kept = kept }
 
   answers-finished : (refused : Bool) (s : List ℕ) (done : ℕ) (left : Option (List ℕ)) → AnswersAll given (finished_status refused) first s done left → AnswersBy given (finished_status refused) first s done left
   answers-finished true s done left all = all
@@ -284,27 +284,27 @@ module _ (given later : Given) (first : Setting) where
   left-end s p ended setting refused before now goes none = goes.left_is ∙ ap (left_by first) (sym (all-turns s p ended setting refused before now goes none))
 
   -- the script has ended
-  pub played-end : (stood : Type 0) (image : List ℕ → Type 0) (s p l behind : List ℕ) (taken : ℕ) (ended : Bool) (setting : Setting) (refused : Bool) (before after : Outside) (goes : Goes given later first s p ended setting refused before.sink after.sink) →
+  pub played-end : (stood : Type 0) (image : List ℕ → Type 0) (writes : ℕ → Type 0) (s p l behind : List ℕ) (taken : ℕ) (ended : Bool) (setting : Setting) (refused : Bool) (before after : Outside) (goes : Goes given later first s p ended setting refused before.sink after.sink) →
       Some l ≡ after.source.left → (before.sink.held_back ≡ 0 → after.sink.held_back ≡ 0) → (p ≡ []) × (behind ++ l ≡ []) → taken + length l ≡ 0 + length s → taken ≤ SCRIPT_LIMIT →
       ((n : ℕ) → length (turns_of given first goes.played goes.last) ≤ n → after.probes ≤ before.probes + lines_cost given first (take (n + 1) (script s))) → (stood → (c : List ℕ) → image c → held c ≡ Ok (stored_setting setting)) →
-      Played false given (finished_status refused) first s before after stood image
-  played-end stood image s p l behind taken ended setting refused before after goes left_is passed none total within asks stands =
+      writes (length (turns_of given first goes.played goes.last)) → Played false given (finished_status refused) first s before after stood image writes
+  played-end stood image writes s p l behind taken ended setting refused before after goes left_is passed none total within asks stands wrote =
       let done = turns_of given first goes.played goes.last in
       let nothing : l ≡ [] = no_rest behind l none.1 in
       let all : play given first s ≡ turns_of given first goes.played goes.last = all-turns s p ended setting refused before.sink after.sink goes none.0 in
       let answers : AnswersAll given (finished_status refused) first s (length (turns_of given first goes.played goes.last)) (Some l) =
       record { read = ap Some nothing; within = omega (arith, total, within, ap length nothing); status_is = ap finished_status (goes.refused_is ∙ ap has_refusal (sym all)); all = ap length (sym all) } in
-      played-stop stood image (finished_status refused) Memory s p l ended setting refused before after goes left_is passed (nothing-stops p l (none.0 ∙ sym nothing)) (answers-finished refused s (length done) (Some l) answers) asks
+      played-stop stood image writes (finished_status refused) Memory s p l ended setting refused before after goes left_is passed (nothing-stops p l (none.0 ∙ sym nothing)) (answers-finished refused s (length done) (Some l) answers) asks
       (λ stood_now c left. answered-held s p ended setting refused before.sink after.sink goes c (stands stood_now c left))
-      (λ stood_now _ c left. stands stood_now c left ∙ ap (λ (z : Setting). Ok (stored_setting z)) (left-end s p ended setting refused before.sink after.sink goes none.0))
+      (λ stood_now _ c left. stands stood_now c left ∙ ap (λ (z : Setting). Ok (stored_setting z)) (left-end s p ended setting refused before.sink after.sink goes none.0)) wrote
 
   -- the sink failed while a line was answered, whose events were stored before
-  pub played-cut : (stood : Type 0) (image : List ℕ → Type 0) (s p l behind : List ℕ) (line : TakenLine) (new_ended : Bool) (setting : Setting) (refused : Bool) (mid : SinkSeen) (before after : Outside) →
+  pub played-cut : (stood : Type 0) (image : List ℕ → Type 0) (writes : ℕ → Type 0) (s p l behind : List ℕ) (line : TakenLine) (new_ended : Bool) (setting : Setting) (refused : Bool) (mid : SinkSeen) (before after : Outside) →
       (goes : Goes given later first s p false setting refused before.sink mid) → Some l ≡ after.source.left → (before.sink.held_back ≡ 0 → mid.held_back ≡ 0) → GivesTaken line new_ended p (behind ++ l) → length behind < piece_size →
       ((n : ℕ) → length (turns_of given first goes.played goes.last) ≤ n → after.probes ≤ before.probes + lines_cost given first (take (n + 1) (script s))) →
       WritesSome mid after.sink (turns_text (turns later setting (items_of_taken line))) → (stood → (c : List ℕ) → image c → Holds (λ now. now ≡ apply_all (stored setting.state) (command_events (turns later setting (items_of_taken line)))) c) →
-      Played false given WriteFault first s before after stood image
-  played-cut stood image s p l behind line new_ended setting refused mid before after goes left_is passed gives near asks some was_stored =
+      ((n : ℕ) → (n ≡ length (turns_of given first goes.played goes.last)) ⊎ (n ≡ length (turns_of given first goes.played goes.last ++ turns later setting (items_of_taken line))) → writes n) → Played false given WriteFault first s before after stood image writes
+  played-cut stood image writes s p l behind line new_ended setting refused mid before after goes left_is passed gives near asks some was_stored wrote =
       let now = turns later setting (items_of_taken line) in
       let done = turns_of given first goes.played goes.last in
       let rest = play (given_after later now) (left_by setting now) (behind ++ l) in
@@ -351,6 +351,7 @@ module _ (given later : Given) (first : Setting) where
           answers = tt;
           asks = asks stopped.replies.done (behind-done stopped.replies.done done now stopped.place);
         };
+        wrote = wrote stopped.replies.done stopped.place;
         reopens = λ stands c left.
             let holds = was_stored stands c left in
             record { kept = holds.kept; is = holds.is; state = answered (stored holds.kept.state) holds.state stopped.replies.done stopped.place };
@@ -433,13 +434,13 @@ module _ (given later : Given) (first : Setting) where
 
 module _ (given later : Given) (first : Setting) where
   -- a run that stops behind the reply to a line, at the steps that follow it
-  pub played-behind : (stood : Type 0) (image : List ℕ → Type 0) (status : Status) (s p l behind : List ℕ) (line : TakenLine) (new_ended : Bool) (setting : Setting) (refused : Bool) (mid : SinkSeen) (before after : Outside) →
+  pub played-behind : (stood : Type 0) (image : List ℕ → Type 0) (writes : ℕ → Type 0) (status : Status) (s p l behind : List ℕ) (line : TakenLine) (new_ended : Bool) (setting : Setting) (refused : Bool) (mid : SinkSeen) (before after : Outside) →
       (goes : Goes given later first s p false setting refused before.sink mid) → Some l ≡ after.source.left → (before.sink.held_back ≡ 0 → after.sink.held_back ≡ 0) → GivesTaken line new_ended p (behind ++ l) → length behind < piece_size →
       ((n : ℕ) → length (turns_of given first goes.played goes.last) ≤ n → after.probes ≤ before.probes + lines_cost given first (take (n + 1) (script s))) →
       Appends mid.written after.sink.written (turns_text (turns later setting (items_of_taken line))) → ((done : ℕ) → AnswersBy given status first s done (Some l)) → (IsFinished status → ⊥) →
       (stood → (c : List ℕ) → image c → Holds (IsTreeOfAnswered (stored setting.state) (turns later setting (items_of_taken line)) (length (turns later setting (items_of_taken line)))) c) →
-      Played false given status first s before after stood image
-  played-behind stood image status s p l behind line new_ended setting refused mid before after goes left_is passed gives near asks written answers unfinished some =
+      writes (length (turns_of given first goes.played goes.last ++ turns later setting (items_of_taken line))) → Played false given status first s before after stood image writes
+  played-behind stood image writes status s p l behind line new_ended setting refused mid before after goes left_is passed gives near asks written answers unfinished some wrote =
       let now = turns later setting (items_of_taken line) in
       let done = turns_of given first goes.played goes.last in
       let rest = play (given_after later now) (left_by setting now) (behind ++ l) in
@@ -448,7 +449,7 @@ module _ (given later : Given) (first : Setting) where
       let state_is = state-is given later first s p false setting refused before.sink mid goes in
       let more = more-turns given later first s p (behind ++ l) line new_ended setting refused before.sink mid goes gives in
       let count = length (turns_of given first (goes.played ++ goes.last) gives.own) in
-      played-stop given (given_after later now) first stood image status Memory s (behind ++ l) l new_ended (left_by setting now) (refused || has_refusal now) before after
+      played-stop given (given_after later now) first stood image writes status Memory s (behind ++ l) l new_ended (left_by setting now) (refused || has_refusal now) before after
       (goes-on given later first s p (behind ++ l) line new_ended setting refused before.sink mid after.sink goes gives written) left_is passed (behind-stops behind l near) (answers count)
       (λ n few. asks n (omega (arith, few, ap length more, length-append done now)))
       (λ stands c left.
@@ -456,4 +457,4 @@ module _ (given later : Given) (first : Setting) where
       (λ t tree.
       subst (λ (ts : List Turn). IsTreeOfAnswered (stored first.state) (play given first s) (length ts) t) (sym more)
       (answered-last (stored first.state) (stored setting.state) t (play given first s) done now rest all_is (few-items later line setting) state_is tree)) (some stands c left))
-      (λ _ finished. absurd (unfinished finished))
+      (λ _ finished. absurd (unfinished finished)) (subst (λ (ts : List Turn). writes (length ts)) (sym more) wrote)

@@ -3,7 +3,7 @@ use Rattle.std.proofs.Common.{◌≡◌, ℕ, true, false, Bool, List, [], ◌�
 use Rattle.std.specs.Prelude.{if◌then◌else◌, filter, Option, None, Some, Result, Ok, Err, ◌==◌, replicate}
 use Rattle.std.specs.Option.{option_map_or}
 use Rattle.std.proofs.Math.Seq.{take-length}
-use Rattle.hac_disk.specs.Images.{LeavesOnly}
+use Rattle.hac_disk.specs.Images.{IsQuiet, IsSettled, LeavesOnly}
 use Rattle.hac_disk.specs.Seen.{DiskSeen, IsLawful}
 use Rattle.hac_disk.proofs.Moments.{started, weaken, then_run}
 use Rattle.hac_model.specs.Tree.Events.{apply, apply_all, changed_at, edited, indexed, next_dirty}
@@ -24,6 +24,8 @@ use Rattle.hac_top.specs.Crashes.{Holds, IsTreeAfter}
 use Rattle.hac_store.specs.Checkpointing.{Checkpoints, HoldsState}
 use Rattle.hac_top.specs.Deciding.{saved_turn, saving_turn, standing_turn, storing_turn, turn_with}
 use Rattle.hac_top.specs.Storing.{Stores, StoresSteps, StoresTurn, storing_reply}
+use Rattle.hac_top.specs.Writes.{GrowsBy}
+use Rattle.hac_top.proofs.WriteLemmas.{grows-none, grows-once, grows-same, grows-then, untouched}
 use Rattle.hac_top.specs.declared.status.Status.TheVariants.{Memory}
 use Rattle.std.proofs.lemmas.Bool.Decides.{nat_tests}
 use Rattle.std.proofs.lemmas.List.{length-replicate, replicate-append-replicate, take-replicate}
@@ -33,7 +35,7 @@ use Rattle.hac_model.specs.declared.states.State.{State}
 use Rattle.hac_model.proofs.PlayLemmas.{apply_all-append, end_behind-append, stored-all}
 use Rattle.hac_store.proofs.RoomLemmas.{end-steps, steps-have-room}
 use Rattle.hac_store.proofs.StoredLemmas.{unstored-same}
-use Rattle.hac_model.proofs.VersionLemmas.{apply_all-version}
+use Rattle.hac_model.proofs.VersionLemmas.{apply-version, apply_all-version}
 use Rattle.hac_model.specs.declared.versions.Version.{Version}
 use Rattle.hac_model.specs.Versions.{store_limit}
 
@@ -76,11 +78,13 @@ stands-same disk z w same stands = record { file = stands.file; is = stands.is; 
 
 module _ (disk : DiskSeen) (lawful : IsLawful disk) where
   -- the disk isn't touched
-  pub stores-nothing : (setting : Setting) (events : List Event) → Stores disk disk setting events false
-  stores-nothing setting events =
+  pub stores-nothing : (setting last : Setting) (events : List Event) → Stores disk disk setting last events false
+  stores-nothing setting last events =
       record {
         moments = λ stands.
             started disk (Holds (IsTreeAfter (stored setting.state) events)) (λ c left. held-before setting events c (stands.each c (lawful.only_now c left)));
+        idle = λ _. untouched disk;
+        settled = λ _ settled. settled;
         names = refl;
         reported = refl;
       }
@@ -88,7 +92,11 @@ module _ (disk : DiskSeen) (lawful : IsLawful disk) where
   -- a reply without events
   pub answers-only : (store : Seen) (reply : Reply) → Bears disk store → StoresTurn disk disk store store (turn_with store.setting reply []) (Ok reply)
   answers-only store reply place =
-      record { ok = record { reply_is = refl; on = record { setting = refl; intact = refl; place = place; stands = λ stands. stands } }; err = tt; stores = stores-nothing store.setting [] }
+      record {
+        ok = record { reply_is = refl; on = record { setting = refl; intact = refl; place = place; stands = λ stands. stands; grows = grows-none disk.contents store.setting } };
+        err = tt;
+        stores = stores-nothing store.setting store.setting [];
+      }
 
   -- a session moves, and what is stored stays
   pub moves-session : (store now : Seen) (event : Event) → is_stored event ≡ false → now ≡ record store { setting = unstored_after store.setting event } → Bears disk store →
@@ -104,15 +112,16 @@ module _ (disk : DiskSeen) (lawful : IsLawful disk) where
             place = subst (λ (z : Seen). Bears disk z) (sym is) place;
             stands = λ stands.
                 subst (λ (z : Seen). Stands disk z.setting) (sym is) (stands-same disk store.setting (unstored_after store.setting event) kept stands);
+            grows = record { later = omega arith; version = λ _. apply-version store.setting.state event; end = λ _. refl; written = λ _. ([], refl, refl) };
           };
         };
         err = tt;
-        stores = stores-nothing store.setting [];
+        stores = stores-nothing store.setting (unstored_after store.setting event) [];
       }
 
   -- memory runs out before anything is stored
   pub stops-first : (store : Seen) (turn : Turn) → StoresTurn disk disk store store turn (Err Memory)
-  stops-first store turn = record { ok = tt; err = tt; stores = stores-nothing store.setting (all_events (turn ∷ [])) }
+  stops-first store turn = record { ok = tt; err = tt; stores = stores-nothing store.setting turn.after (all_events (turn ∷ [])) }
 
   -- the store is full
   pub full-turn : (store : Seen) (events : List Event) → Bears disk store → have_room store.setting events ≡ false →
@@ -122,10 +131,12 @@ module _ (disk : DiskSeen) (lawful : IsLawful disk) where
       (answers-only store (Refused (Limit Store)) place)
 
 -- one call, before and after which the store is held
-once : (old new : DiskSeen) (before : Seen) (events : List Event) (failed : Bool) → AreStored events → have_room before.setting events ≡ true → (Stands old before.setting → LeavesOnly old new (HeldBetween before.setting events)) → new.attached ≡ old.attached →
-    ReportsFault failed old.faults new.faults → Stores old new before.setting (all_events (storing_turn before.setting events ∷ [])) failed
-once old new before events failed all room moments names told =
+once : (old new : DiskSeen) (before : Seen) (last : Setting) (events : List Event) (failed : Bool) → AreStored events → 0 < length events → have_room before.setting events ≡ true → (Stands old before.setting → LeavesOnly old new (HeldBetween before.setting events)) →
+    (failed ≡ false → IsSettled new) → new.attached ≡ old.attached → ReportsFault failed old.faults new.faults → Stores old new before.setting last (all_events (storing_turn before.setting events ∷ [])) failed
+once old new before last events failed all some room moments settled names told =
     record {
+      idle = λ nothing. absurd (omega (arith, some, ap length (sym (turn-events before.setting events room) ∙ nothing.1)));
+      settled = λ fine _. settled fine;
       moments = λ stands.
           subst (λ (es : List Event). LeavesOnly old new (Holds (IsTreeAfter (stored before.setting.state) es))) (sym (turn-events before.setting events room))
           (weaken old new (HeldBetween before.setting events) (Holds (IsTreeAfter (stored before.setting.state) events)) (λ c. held-between before.setting events c all) (moments stands));
@@ -134,9 +145,9 @@ once old new before events failed all room moments names told =
     }
 
 module _ {D : Type 0} {seen : D → DiskSeen} {old new : D} {before after : Seen} {events : List Event} (lawful : IsLawful (seen old)) where
-  pub stores-once : (result : Result (Unit {0}) StoreFault) → AreStored events → Bears (seen old) before → StoresEvents seen old new before after events result →
+  pub stores-once : (result : Result (Unit {0}) StoreFault) → AreStored events → 0 < length events → Bears (seen old) before → StoresEvents seen old new before after events result →
       StoresTurn (seen old) (seen new) before after (storing_turn before.setting events) (storing_reply result)
-  stores-once (Ok done) all place went =
+  stores-once (Ok done) all some place went =
       let turn = storing-turn before.setting events true went.ends.room in
       record {
         ok = record {
@@ -146,36 +157,51 @@ module _ {D : Type 0} {seen : D → DiskSeen} {old new : D} {before after : Seen
             intact = ap (λ (z : Seen). z.broken) went.ends.store;
             place = went.ends.place;
             stands = went.stands;
+            grows =
+                subst (λ (t : Turn). GrowsBy (seen old).contents (seen new).contents before.setting t.after t.events) (sym turn)
+                (grows-once (seen old).contents (seen new).contents before.setting events went.ends.written);
           };
         };
         err = tt;
-        stores = once (seen old) (seen new) before events false all went.ends.room went.moments went.names went.reported;
+        stores = once (seen old) (seen new) before (storing_turn before.setting events).after events false all some went.ends.room went.moments (λ _. went.ends.settled) went.names went.reported;
       }
-  stores-once (Err fault.Full) all place went =
+  stores-once (Err fault.Full) all some place went =
       subst (λ (store : Seen). StoresTurn (seen old) (seen new) before store (storing_turn before.setting events) (Ok (Refused (Limit Store)))) (sym went.ends.1.0)
       (subst (λ (disk : D). StoresTurn (seen old) (seen disk) before before (storing_turn before.setting events) (Ok (Refused (Limit Store)))) (sym went.ends.1.1)
       (full-turn (seen old) lawful before events place went.ends.0))
-  stores-once (Err fault.Memory) all place went =
+  stores-once (Err fault.Memory) all some place went =
       subst (λ (store : Seen). StoresTurn (seen old) (seen new) before store (storing_turn before.setting events) (Err Memory)) (sym went.ends.0)
       (subst (λ (disk : D). StoresTurn (seen old) (seen disk) before before (storing_turn before.setting events) (Err Memory)) (sym went.ends.1)
       (stops-first (seen old) lawful before (storing_turn before.setting events)))
-  stores-once (Err fault.Disk) all place went = record { ok = tt; err = tt; stores = once (seen old) (seen new) before events true all went.ends.0 went.moments went.names went.reported }
-  stores-once (Err (fault.NotStore at)) all place went = absurd went.ends
-  stores-once (Err fault.AlreadyStore) all place went = absurd went.ends
+  stores-once (Err fault.Disk) all some place went =
+      record { ok = tt; err = tt; stores = once (seen old) (seen new) before (storing_turn before.setting events).after events true all some went.ends.0 went.moments (λ e. absurd cc) went.names went.reported }
+  stores-once (Err (fault.NotStore at)) all some place went = absurd went.ends
+  stores-once (Err fault.AlreadyStore) all some place went = absurd went.ends
 
 -- A new area that is begun with the whole state.
 
 -- a crash at each moment leaves what was held, which is the tree before any event
-holding : (old new : DiskSeen) (before : Seen) (events : List Event) (failed : Bool) → (Stands old before.setting → LeavesOnly old new (HoldsState before.setting.state)) → new.attached ≡ old.attached →
-    ReportsFault failed old.faults new.faults → Stores old new before.setting events failed
-holding old new before events failed moments names told =
+holding : (old new : DiskSeen) (before : Seen) (last : Setting) (events : List Event) (failed : Bool) → (Stands old before.setting → LeavesOnly old new (HoldsState before.setting.state)) → (last.generation ≡ before.setting.generation → ⊥) →
+    (failed ≡ false → IsSettled new) → new.attached ≡ old.attached → ReportsFault failed old.faults new.faults → Stores old new before.setting last events failed
+holding old new before last events failed moments begun settled names told =
     record {
+      idle = λ nothing. absurd (begun nothing.0);
+      settled = λ fine _. settled fine;
       moments = λ stands.
           weaken old new (HoldsState before.setting.state) (Holds (IsTreeAfter (stored before.setting.state) events))
           (λ c holds. record { kept = holds.0; is = holds.1; state = record { count = 0; within = omega arith; is = holds.2 } }) (moments stands);
       names = names;
       reported = told;
     }
+
+-- where there is a place for a new area, its turn begins one
+begins-area : (setting : Setting) (place : Option ℕ) → next_place setting ≡ place → (next_place setting ≡ None → ⊥) → (saving_turn setting).after.generation ≡ setting.generation → ⊥
+begins-area setting None is some same = some is
+begins-area setting (Some at) is some same = absurd (omega (arith, ap (λ (t : Turn). t.after.generation) (sym (saving-turn setting (Some at) is)) ∙ same))
+
+saved-grows : (old new : Option (List ℕ)) (setting : Setting) (at : ℕ) → GrowsBy old new setting (saved_turn setting at).after []
+saved-grows old new setting at =
+    record { later = omega arith; version = λ same. absurd (omega (arith, same)); end = λ same. absurd (omega (arith, same)); written = λ same. absurd (omega (arith, same)) }
 
 module _ {D : Type 0} {seen : D → DiskSeen} {old new : D} {before after : Seen} (lawful : IsLawful (seen old)) where
   pub stores-saved : (result : Result (Unit {0}) StoreFault) → Bears (seen old) before → Checkpoints seen old new before after result →
@@ -191,10 +217,15 @@ module _ {D : Type 0} {seen : D → DiskSeen} {old new : D} {before after : Seen
             intact = ap (λ (z : Seen). z.broken) made.store;
             place = made.place;
             stands = went.stands;
+            grows =
+                subst (λ (t : Turn). GrowsBy (seen old).contents (seen new).contents before.setting t.after t.events) (sym turn)
+                (saved-grows (seen old).contents (seen new).contents before.setting went.ends.0);
           };
         };
         err = tt;
-        stores = holding (seen old) (seen new) before (all_events (saving_turn before.setting ∷ [])) false went.moments went.names went.reported;
+        stores =
+            holding (seen old) (seen new) before (saving_turn before.setting).after (all_events (saving_turn before.setting ∷ [])) false went.moments
+            (begins-area before.setting (Some went.ends.0) made.free (λ none. let never : None ≡ Some went.ends.0 = sym none ∙ made.free in cc)) (λ _. made.settled) went.names went.reported;
       }
   stores-saved (Err fault.Full) place went =
       subst (λ (store : Seen). StoresTurn (seen old) (seen new) before store (saving_turn before.setting) (Ok (Refused (Limit Store)))) (sym went.ends.1.0)
@@ -206,7 +237,13 @@ module _ {D : Type 0} {seen : D → DiskSeen} {old new : D} {before after : Seen
       (subst (λ (disk : D). StoresTurn (seen old) (seen disk) before before (saving_turn before.setting) (Err Memory)) (sym went.ends.1)
       (stops-first (seen old) lawful before (saving_turn before.setting)))
   stores-saved (Err fault.Disk) place went =
-      record { ok = tt; err = tt; stores = holding (seen old) (seen new) before (all_events (saving_turn before.setting ∷ [])) true went.moments went.names went.reported }
+      record {
+        ok = tt;
+        err = tt;
+        stores =
+            holding (seen old) (seen new) before (saving_turn before.setting).after (all_events (saving_turn before.setting ∷ [])) true went.moments
+            (begins-area before.setting (next_place before.setting) refl went.ends.0) (λ e. absurd cc) went.names went.reported;
+      }
   stores-saved (Err (fault.NotStore at)) place went = absurd went.ends
   stores-saved (Err fault.AlreadyStore) place went = absurd went.ends
 
@@ -298,6 +335,9 @@ pub record Stepped (old now : DiskSeen) (first store : Seen) (done count : ℕ) 
   pub place : Bears now store
   pub stands : Stands old first.setting → Stands now store.setting
   pub moments : Stands old first.setting → LeavesOnly old now (HoldsSome first.setting count)
+  pub grows : GrowsBy old.contents now.contents first.setting (after_events first.setting (steps done)) (steps done)
+  pub still : done ≡ 0 → IsQuiet old now
+  pub settled : IsSettled old → IsSettled now
   pub names : now.attached ≡ old.attached
   pub quiet : now.faults ≡ old.faults
 
@@ -305,13 +345,16 @@ pub record Stepped (old now : DiskSeen) (first store : Seen) (done count : ℕ) 
 pub none-stepped : (disk : DiskSeen) → IsLawful disk → (first : Seen) (done count : ℕ) → done ≡ 0 → fit_behind first.setting.state.version first.setting.end count 2 ≡ true → Bears disk first → Stepped disk disk first first done count
 none-stepped disk lawful first done count none room place =
     let events = all_events (storing_turn first.setting (steps count) ∷ []) in
-    let nothing : Stores disk disk first.setting events false = stores-nothing disk lawful first.setting events in
+    let nothing : Stores disk disk first.setting first.setting events false = stores-nothing disk lawful first.setting first.setting events in
     record {
       room = room;
       store_is = ap (λ (n : ℕ). store_after first (steps n)) (sym none);
       place = place;
       stands = λ stands. stands;
       moments = nothing.moments;
+      grows = subst (λ (n : ℕ). GrowsBy disk.contents disk.contents first.setting (after_events first.setting (steps n)) (steps n)) (sym none) (grows-none disk.contents first.setting);
+      still = λ _. untouched disk;
+      settled = λ settled. settled;
       names = refl;
       quiet = refl;
     }
@@ -334,10 +377,19 @@ module _ {old now : DiskSeen} {first store : Seen} {done count : ℕ} (was : Ste
             intact = ap (λ (z : Seen). z.broken) was.store_is;
             place = was.place;
             stands = was.stands;
+            grows =
+                subst (λ (t : Turn). GrowsBy old.contents now.contents first.setting t.after t.events) (sym turn)
+                (subst (λ (n : ℕ). GrowsBy old.contents now.contents first.setting (after_events first.setting (steps n)) (steps n)) all was.grows);
           };
         };
         err = tt;
-        stores = record { moments = was.moments; names = was.names; reported = was.quiet };
+        stores = record {
+          moments = was.moments;
+          idle = λ nothing. was.still (omega (arith, all, ap length (sym (turn-events first.setting (steps count) room) ∙ nothing.1), length-replicate count Step));
+          settled = λ _. was.settled;
+          names = was.names;
+          reported = was.quiet;
+        };
       }
 
 module _ {D : Type 0} (seen : D → DiskSeen) (mid new : D) {old : DiskSeen} {first store after : Seen} {done count : ℕ} (was : Stepped old (seen mid) first store done count)
@@ -351,28 +403,44 @@ module _ {D : Type 0} (seen : D → DiskSeen) (mid new : D) {old : DiskSeen} {fi
       (part-held first.setting done batch count c few (subst (λ (z : Seen). HeldBetween z.setting (steps batch) c) was.store_is between))) (went.moments (was.stands stands)))
 
   -- one part more
-  pub part-stepped : StoresEvents seen mid new store after (steps batch) (Ok tt) → (next : ℕ) → done + batch ≡ next → Stepped old (seen new) first after next count
-  part-stepped went next is =
+  pub part-stepped : 0 < batch → StoresEvents seen mid new store after (steps batch) (Ok tt) → (next : ℕ) → done + batch ≡ next → Stepped old (seen new) first after next count
+  part-stepped some went next is =
       record {
         room = was.room;
         store_is = went.ends.store ∙ ap (λ (z : Seen). store_after z (steps batch)) was.store_is ∙ ap (λ (z : Setting). record first { setting = z }) (after-steps first.setting done batch ∙ ap (λ (n : ℕ). after_events first.setting (steps n)) is);
         place = went.ends.place;
         stands = λ stands. went.stands (was.stands stands);
         moments = part-moments (Ok tt) went;
+        grows =
+            grows-same old.contents (seen new).contents first.setting (after_events (after_events first.setting (steps done)) (steps batch)) (after_events first.setting (steps next)) (steps done ++ steps batch) (steps next)
+            (after-steps first.setting done batch ∙ ap (λ (n : ℕ). after_events first.setting (steps n)) is) (replicate-append-replicate done batch Step ∙ ap steps is)
+            (grows-then old.contents (seen mid).contents (seen new).contents first.setting (after_events first.setting (steps done)) (after_events (after_events first.setting (steps done)) (steps batch)) (steps done) (steps batch) was.grows
+            (subst (λ (z : Seen). GrowsBy (seen mid).contents (seen new).contents z.setting (after_events z.setting (steps batch)) (steps batch)) was.store_is
+            (grows-once (seen mid).contents (seen new).contents store.setting (steps batch) went.ends.written)));
+        still = λ none. absurd (omega (arith, some, is, none));
+        settled = λ _. went.ends.settled;
         names = went.names ∙ was.names;
         quiet = went.reported ∙ was.quiet;
       }
 
-  stopped : (failed : Bool) (reason : StoreFault) → StoresEvents seen mid new store after (steps batch) (Err reason) → ReportsFault failed (seen mid).faults (seen new).faults →
-      Stores old (seen new) first.setting (all_events (storing_turn first.setting (steps count) ∷ [])) failed
-  stopped failed reason went told =
-      record { moments = part-moments (Err reason) went; names = went.names ∙ was.names; reported = told-since failed old.faults (seen mid).faults (seen new).faults was.quiet told }
+  stopped : (failed : Bool) (reason : StoreFault) → 0 < batch → StoresEvents seen mid new store after (steps batch) (Err reason) → (failed ≡ false → IsSettled (seen mid) → IsSettled (seen new)) → ReportsFault failed (seen mid).faults (seen new).faults →
+      Stores old (seen new) first.setting (storing_turn first.setting (steps count)).after (all_events (storing_turn first.setting (steps count) ∷ [])) failed
+  stopped failed reason some went settled told =
+      record {
+        moments = part-moments (Err reason) went;
+        idle = λ nothing.
+            absurd (omega (arith, some, few, ap length (sym (turn-events first.setting (steps count) (steps-have-room first.setting count ∙ was.room)) ∙ nothing.1), length-replicate count Step));
+        settled = λ fine before. settled fine (was.settled before);
+        names = went.names ∙ was.names;
+        reported = told-since failed old.faults (seen mid).faults (seen new).faults was.quiet told;
+      }
 
   -- or none, and then the disk failed or memory ran out, as there is room for all
   pub part-stopped : 0 < batch → (reason : StoreFault) → StoresEvents seen mid new store after (steps batch) (Err reason) →
       StoresTurn old (seen new) first after (storing_turn first.setting (steps count)) (storing_reply (Err reason))
-  part-stopped some fault.Disk went = record { ok = tt; err = tt; stores = stopped true fault.Disk went went.reported }
-  part-stopped some fault.Memory went = record { ok = tt; err = tt; stores = stopped false fault.Memory went went.reported }
+  part-stopped some fault.Disk went = record { ok = tt; err = tt; stores = stopped true fault.Disk some went (λ e. absurd cc) went.reported }
+  part-stopped some fault.Memory went =
+      record { ok = tt; err = tt; stores = stopped false fault.Memory some went (λ _ settled. subst (λ (disk : D). IsSettled (seen disk)) (sym went.ends.1) settled) went.reported }
   part-stopped some fault.Full went =
       let fits : fit_behind store.setting.state.version store.setting.end batch 2 ≡ true =
       subst (λ (z : Seen). fit_behind z.setting.state.version z.setting.end batch 2 ≡ true) (sym was.store_is)
@@ -386,9 +454,11 @@ module _ {D : Type 0} (seen : D → DiskSeen) (mid new : D) {old : DiskSeen} {fi
 -- Index steps that follow a command by themselves.
 
 stores-due : (old new : DiskSeen) (setting : Setting) (count : ℕ) (due : List Event) (failed : Bool) → have_room setting (steps count) ≡ true → due ≡ steps count →
-    Stores old new setting (all_events (storing_turn setting (steps count) ∷ [])) failed → Stores old new setting due failed
+    Stores old new setting (storing_turn setting (steps count)).after (all_events (storing_turn setting (steps count) ∷ [])) failed → Stores old new setting (after_events setting due) due failed
 stores-due old new setting count due failed room is stores =
-    subst (λ (es : List Event). Stores old new setting es failed) (turn-events setting (steps count) room ∙ sym is) stores
+    let turn = storing-turn setting (steps count) true room in
+    subst (λ (z : Setting). Stores old new setting z due failed) (ap (λ (t : Turn). t.after) turn ∙ ap (after_events setting) (sym is))
+    (subst (λ (es : List Event). Stores old new setting (storing_turn setting (steps count)).after es failed) (turn-events setting (steps count) room ∙ sym is) stores)
 
 -- all that are due were stored; or the disk failed or memory ran out, as there is room for all
 pub due-stored : {old new : DiskSeen} {before after : Seen} (count : ℕ) (due : List Event) → have_room before.setting (steps count) ≡ true → due ≡ steps count → (result : Result (Unit {0}) StoreFault) →
@@ -401,6 +471,9 @@ due-stored {old} {new} {before} {after} count due room is (Ok done) went =
         intact = went.ok.on.intact;
         place = went.ok.on.place;
         stands = went.ok.on.stands;
+        grows =
+            grows-same old.contents new.contents before.setting (storing_turn before.setting (steps count)).after (after_events before.setting due) (storing_turn before.setting (steps count)).events due
+            (ap (λ (t : Turn). t.after) turn ∙ ap (after_events before.setting) (sym is)) (ap (λ (t : Turn). t.events) turn ∙ sym is) went.ok.on.grows;
       };
       err = tt;
       stores = stores-due old new before.setting count due false room is went.stores;

@@ -1,5 +1,5 @@
 -- How a run ends that comes to no store, as a space can't be attached; and what it leaves where it comes to one.
-use Rattle.std.proofs.Common.{◌≡◌, ◌⊎◌, ℕ, ◌≤◌, ◌+◌, Bool, true, false, List, length, Option, None, Some, Ok, Err, refl, sym, ap, subst, ◌∙◌, inl, inr, arith, rules}
+use Rattle.std.proofs.Common.{◌≡◌, ℕ, ◌≤◌, ◌+◌, Bool, true, List, length, Option, None, Some, Ok, Err, refl, subst, inl, inr, arith, rules}
 use Rattle.std.specs.Prelude.{⊤, Result, IfOk, IfErr}
 use Rattle.std.specs.Option.{IfSome}
 use Rattle.hac_disk.specs.Images.{IsQuiet}
@@ -18,9 +18,11 @@ use Rattle.hac_top.specs.Crashes.{IsOfFile, StopsOpening, opening_outcome}
 use Rattle.hac_top.specs.Ends.{IsOpenStatus, IsStoreStatus, is_bad_space, is_disk_fault}
 use Rattle.hac_top.specs.Run.{Ends, EndsSo, IfPlays, IsFaultless, Outside, Ran, RunsAnd, RunsFrom, TakesWithin, once_open}
 use Rattle.hac_top.specs.Spaces.{HasAttached, LeavesSpaces, StopsAttaching, attach_status}
+use Rattle.hac_top.specs.Takes.{Takes}
 use Rattle.hac_top.specs.declared.status.Status.{Status}
-use Rattle.hac_top.specs.declared.status.Status.TheVariants.{Usage, WriteFault, DiskFault, Memory, BadSpace}
+use Rattle.hac_top.specs.declared.status.Status.TheVariants.{Usage, DiskFault, Memory, BadSpace}
 use Rattle.hac_top.proofs.OpenedLemmas.{Opening, opens-quiet, ran-none, told-given, told-none}
+use Rattle.hac_top.proofs.WriteLemmas.{untouched}
 
 -- a run that comes to its store ends otherwise than at its words or at a space
 pub opened-own : (status : Status) → IsOpenStatus status → IsStoreStatus status
@@ -48,23 +50,19 @@ unopened-attached Memory old asked new stops may attaches = may
 unopened-attached other old asked new stops may attaches = attaches (λ never. cc)
 
 -- once all are attached a run doesn't end at a space
-pub own-spaces : (status : Status) (files : List Space) (old mid new : SpacesSeen) → IsStoreStatus status → HasAttached files old mid → StayAttached mid new → LeavesSpaces status files old new
-own-spaces (BadSpace which line) files old mid new own has stay = absurd own
-own-spaces Memory files old mid new own has stay = inr (inr (mid, has, stay))
-own-spaces other files old mid new own has stay = (mid, has, stay)
-
-pub own-good : (status : Status) → IsStoreStatus status → is_bad_space status ≡ true → ⊥
-own-good (BadSpace which line) own bad = own
-own-good other own bad = cc
+pub own-spaces : (status : Status) (files : List Space) (old mid new : SpacesSeen) (untouched : Type 0) → IsStoreStatus status → HasAttached files old mid → StayAttached mid new → LeavesSpaces status files old new untouched
+own-spaces (BadSpace which line) files old mid new untouched own has stay = absurd own
+own-spaces Memory files old mid new untouched own has stay = inr (mid, has, stay)
+own-spaces other files old mid new untouched own has stay = (mid, has, stay)
 
 -- a run that can't attach one says so, or memory ran out
-pub stopped-spaces : (status : Status) (files : List Space) (old new : SpacesSeen) → StopsAttaching files old new status → LeavesSpaces status files old new
-stopped-spaces status files old new stops = by stops.fault stops.status_is
+pub stopped-spaces : (status : Status) (files : List Space) (old new : SpacesSeen) (untouched : Type 0) → untouched → StopsAttaching files old new status → LeavesSpaces status files old new untouched
+stopped-spaces status files old new untouched still stops = by stops.fault stops.status_is
   where
-    by : (fault : AttachFault) → status ≡ attach_status (length stops.front + 1) fault → LeavesSpaces status files old new
-    by attach.Failed is = rw is (subst (StopsAttaching files old new) is stops)
-    by (attach.BadCatalogue line) is = rw is (subst (StopsAttaching files old new) is stops)
-    by attach.Memory is = rw is (inr (inl (subst (StopsAttaching files old new) is stops)))
+    by : (fault : AttachFault) → status ≡ attach_status (length stops.front + 1) fault → LeavesSpaces status files old new untouched
+    by attach.Failed is = rw is (subst (StopsAttaching files old new) is stops, still)
+    by (attach.BadCatalogue line) is = rw is (subst (StopsAttaching files old new) is stops, still)
+    by attach.Memory is = rw is (inl (inr (subst (StopsAttaching files old new) is stops), still))
 
 -- such a status
 abbrev pub IsUnattached : Status → Type 0
@@ -86,11 +84,6 @@ within-same (Some bytes) = omega arith
 
 pub unattached-usage : (status : Status) → IsUnattached status → status ≡ Usage → ⊥
 unattached-usage status un is = subst IsUnattached is un
-
--- nor does a run that refuses its words
-pub told-good : (status : Status) → (status ≡ Usage) ⊎ (status ≡ WriteFault) → is_bad_space status ≡ true → ⊥
-told-good status (inl is) bad = let never : false ≡ true = ap is_bad_space (sym is) ∙ bad in cc
-told-good status (inr is) bad = let never : false ≡ true = ap is_bad_space (sym is) ∙ bad in cc
 
 -- it did nothing else
 pub unattached-ends : (status : Status) (before : Outside) → IsUnattached status → Ends status before before
@@ -150,9 +143,6 @@ stopped-later files old new status stops = by stops.fault stops.cause
     by (attach.BadCatalogue line) cause = omega (arith, cause.0)
     by attach.Memory cause = omega (arith, cause.0)
 
-pub untouched : (disk : DiskSeen) → IsQuiet disk disk
-untouched disk = record { same = refl; images = λ c left. left; later = omega arith; past = λ t c within left. left; keeps = λ t c within left. left }
-
 pub unattached-quiet : {I O : Type 0} (status : Status) → IsUnattached status → (fresh : Bool) (disk : DiskSeen) (input : I) (output : O) (told : Option (List ℕ)) →
     IfSome told (λ file. IfErr (opening_outcome fresh (held file)) (λ wanted. EndsSo wanted status × IsQuiet disk disk × (input ≡ input) × (output ≡ output)))
 unattached-quiet status un fresh disk input output None = search rules
@@ -177,10 +167,10 @@ ran-unattached premise status un good asked disk lawful before old new later Als
         Opening asked.fresh disk disk setting →
         Ran asked.fresh given status setting script (once_open opens before) before disk disk faultless
     one opens given (BadSpace which line) un good setting script left_is opening =
-        ran-none asked.fresh asked.tick disk disk lawful (once_open opens before) before.probes given faultless (BadSpace which line) setting script left_is (omega arith) opening (λ done. tt) (λ never. never)
+        ran-none asked.fresh asked.tick disk disk lawful (λ _. untouched disk) (once_open opens before) before.probes given faultless (BadSpace which line) setting script left_is (omega arith) opening (λ done. tt) (λ never. never)
         (λ none. absurd (good none.0 refl))
     one opens given Memory un good setting script left_is opening =
-        ran-none asked.fresh asked.tick disk disk lawful (once_open opens before) before.probes given faultless Memory setting script left_is (omega arith) opening (λ done. tt) (λ never. never)
+        ran-none asked.fresh asked.tick disk disk lawful (λ _. untouched disk) (once_open opens before) before.probes given faultless Memory setting script left_is (omega arith) opening (λ done. tt) (λ never. never)
         (λ _. record { within = λ _. inr refl; past = λ _. inr refl })
     one opens given other un good setting script left_is opening = absurd un
 
@@ -200,6 +190,17 @@ ran-unattached premise status un good asked disk lawful before old new later Als
     of-file None opening = search rules
     of-file (Some f) opening = of-left f before.source.left refl opening
 
+-- nothing was taken of the source
+pub unattached-takes : (status : Status) (told : Option (List ℕ)) → IsUnattached status → Takes status told told
+unattached-takes status None un = search rules
+unattached-takes (BadSpace which line) (Some script) un = refl
+unattached-takes Memory (Some script) un = (0, omega arith, refl)
+unattached-takes other (Some script) un = absurd un
+
+pub memory-takes : (asked : Option Options) (told : Option (List ℕ)) → IfPlays asked (λ asked. Takes Memory told told)
+memory-takes None told = search rules
+memory-takes (Some asked) told = λ _. unattached-takes Memory told tt
+
 -- memory ran out before any space was attached
 pub memory-quiet : {I O : Type 0} (asked : Option Options) (disk : DiskSeen) (input : I) (output : O) →
     IfSome asked (λ asked. IfSome disk.contents (λ file. IfErr (opening_outcome asked.fresh (held file)) (λ wanted. EndsSo wanted Memory × IsQuiet disk disk × (input ≡ input) × (output ≡ output))))
@@ -211,9 +212,9 @@ pub memory-ran : (premise : Options → Type 0) (asked : Option Options) (disk :
 memory-ran premise None disk lawful before spaces = search rules
 memory-ran premise (Some asked) disk lawful before spaces = λ _. ran-unattached (premise asked) Memory tt (λ _ never. cc) asked disk lawful before spaces spaces (omega arith) (λ given setting script. ⊤) (λ given setting script. tt)
 
-pub memory-spaces : (asked : Option Options) (spaces : SpacesSeen) → IfSome asked (λ asked. LeavesSpaces Memory asked.spaces spaces spaces)
-memory-spaces None spaces = search rules
-memory-spaces (Some asked) spaces = inl refl
+pub memory-spaces : (asked : Option Options) (spaces : SpacesSeen) (untouched : Type 0) → untouched → IfSome asked (λ asked. LeavesSpaces Memory asked.spaces spaces spaces untouched)
+memory-spaces None spaces untouched still = search rules
+memory-spaces (Some asked) spaces untouched still = inl (inl refl, still)
 
 pub memory-attached : (asked : Option Options) (names : Option (List (List ℕ × Bool))) → IfSome asked (λ asked. LeavesAttached Memory names asked names)
 memory-attached None names = search rules

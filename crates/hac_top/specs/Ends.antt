@@ -49,6 +49,14 @@ IsFinished Done = ⊤
 IsFinished SomeRefused = ⊤
 IsFinished other = ⊥
 
+-- the run ended between two lines: none was in hand
+abbrev pub IsBetween : Status → Type 0
+IsBetween Done = ⊤
+IsBetween SomeRefused = ⊤
+IsBetween ReadFault = ⊤
+IsBetween TooLong = ⊤
+IsBetween other = ⊥
+
 -- the run ended once its store was open
 abbrev pub IsOpenStatus : Status → Type 0
 IsOpenStatus Usage = ⊥

@@ -6,8 +6,10 @@ pub mod Devices
 pub mod Ends
 pub mod Making
 pub mod TakenLines
+pub mod Takes
 pub mod Replies
 pub mod Run
 pub mod Spaces
 pub mod Storing
 pub mod Ticking
+pub mod Writes

@@ -23,6 +23,8 @@ use Rattle.hac_top.specs.Crashes.{Holds, IsTreeAfter, IsTreeOfAnswered, Reopens,
 use Rattle.hac_top.specs.Ends.{IsFinished, IsOpenStatus, end_status, finished_status, is_bad_space, is_disk_fault, is_read_fault, is_write_fault}
 use Rattle.hac_top.specs.Replies.{WritesReplies}
 use Rattle.hac_top.specs.Asking.{HaveAsked, IfTold, given_by}
+use Rattle.hac_top.specs.Takes.{Takes}
+use Rattle.hac_top.specs.Writes.{WritesTurns}
 use Rattle.sem_mounts.specs.Seen.{SpacesSeen}
 use Rattle.hac_top.specs.declared.status.Status.{Status}
 use Rattle.hac_top.specs.declared.status.Status.TheVariants.{Done, SomeRefused, Usage, ReadFault, WriteFault, DiskFault, Memory, TooLong}
@@ -139,11 +141,13 @@ pub record Plays (given : Given) (status : Status) (setting : Setting) (bytes : 
 
 -- How a script is played from a store. Its replies are those of the plain tree. Where nothing was pending on
 -- the disk as it began, a crash leaves the tree with the events of each answered command, and at most those of the
--- command in hand besides; and where the script has ended, it leaves what is stored of what the last command left.
+-- command in hand besides; and where the script has ended, it leaves what is stored of what the last command left. What
+-- was written is said by how many replies were.
 pub record Played (fresh : Bool) (given : Given) (status : Status) (setting : Setting) (script : List ℕ)
     (before after : Outside)
-    (stood : Type 0) (image : List ℕ → Type 0) : Type 0 where
+    (stood : Type 0) (image : List ℕ → Type 0) (writes : ℕ → Type 0) : Type 0 where
   pub plays : Plays given status setting script before after
+  pub wrote : writes plays.replies.done
   pub reopens : stood → (c : List ℕ) → image c → Reopens fresh (IsTreeOfAnswered (stored setting.state)
       (play given setting script) plays.replies.done) c
   pub kept : stood → IsFinished status → (c : List ℕ) → image c →
@@ -165,20 +169,25 @@ pub record Completes (status : Status) (script : List ℕ) : Type 0 where
 abbrev pub IsTreeOf : Given → Setting → List ℕ → State → Type 0
 IsTreeOf given setting script now = IsTreeAfter (stored setting.state) (all_events (play given setting script)) now
 
--- How the script is played from a store that was opened, whatever source, disk and spaces tell. A crash at each moment
--- leaves the tree after some of the events. A call of the disk that failed is reported, and no other. The spaces met
--- these faults as they were asked.
+-- How a script that is told is played from a store that was opened, given what its commands met. A crash at each moment
+-- leaves the tree after some of the events.
+pub record PlaysTold (given : Given) (old new : DiskSeen) (setting : Setting) (bytes : List ℕ) (before after : Outside)
+    (status : Status) : Type 0 where
+  pub askable : AreAskable given setting (script bytes)
+  pub played : Played false given status setting bytes before after (Stands old setting) new.image
+      (WritesTurns old new status setting (play given setting bytes))
+  pub moments : Stands old setting → LeavesOnly old new (Holds (IsTreeOf given setting bytes))
+
+-- How the script is played from a store that was opened, whatever source, disk and spaces tell. A call of the disk that
+-- failed is reported, and no other. The spaces met these faults as they were asked.
 pub record PlaysStore (old new : DiskSeen) (tick : ℕ) (setting : Setting) (before after : Outside)
     (spaces left : SpacesSeen) (status : Status) : Type 0 where
   pub opened : IsOpenStatus status
   pub met : List (Option (List ℕ))
   pub asked : HaveAsked spaces left met
-  pub askable : IfSome spaces.contents (λ contents. IfSome before.source.left (λ bytes.
-      AreAskable (given_by contents met tick) setting (script bytes)))
-  pub played : IfSome spaces.contents (λ contents. IfSome before.source.left (λ bytes.
-      Played false (given_by contents met tick) status setting bytes before after (Stands old setting) new.image))
-  pub moments : IfSome spaces.contents (λ contents. IfSome before.source.left (λ bytes. Stands old setting →
-      LeavesOnly old new (Holds (IsTreeOf (given_by contents met tick) setting bytes))))
+  pub told : IfSome spaces.contents (λ contents. IfSome before.source.left (λ bytes.
+      PlaysTold (given_by contents met tick) old new setting bytes before after status))
+  pub takes : Takes status before.source.left after.source.left
   pub ends : Ends status before after
   pub names : new.attached ≡ old.attached
   pub reported : ReportsFault (is_disk_fault status) old.faults new.faults
@@ -193,10 +202,12 @@ pub record PlaysOn (old new : DiskSeen) (tick : ℕ) (setting : Setting) (before
 
 -- The outcome of a run that goes on from a store. Where nothing was pending on the disk as it began, a crash at each
 -- moment leaves that tree after some of the events of the script; once it has begun to take the script, a crash leaves
--- a store. Without a fault the script is played, unless memory runs out.
+-- a store. On a store that was there, nothing was written but what its commands store. Without a fault the script is
+-- played, unless memory runs out.
 pub record Ran (fresh : Bool) (given : Given) (status : Status) (setting : Setting) (script : List ℕ)
     (before after : Outside) (old new : DiskSeen) (faultless : Type 0) : Type 0 where
   pub played : Played fresh given status setting script before after (IsSettled old) new.image
+      (λ done. fresh ≡ false → WritesTurns old new status setting (play given setting script) done)
   pub moments : IsSettled old → LeavesOnly old new (Reopens fresh (IsTreeOf given setting script))
   pub begun : IsSettled old → HasBegun status before after → (c : List ℕ) → new.image c →
       Holds (IsTreeOf given setting script) c

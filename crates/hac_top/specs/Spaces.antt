@@ -72,12 +72,12 @@ pub record StopsAttaching (files : List Space) (old new : SpacesSeen) (status : 
 abbrev pub Serves : List Space → SpacesSeen → SpacesSeen → Type 0
 Serves files old new = (attached : SpacesSeen) × HasAttached files old attached × StayAttached attached new
 
--- What a run leaves of its spaces: each of those that the words name is attached, unless one of them can't be; and
--- memory may run out before, too.
-abbrev pub LeavesSpaces : Status → List Space → SpacesSeen → SpacesSeen → Type 0
-LeavesSpaces (BadSpace which line) files old new = StopsAttaching files old new (BadSpace which line)
-LeavesSpaces Memory files old new = (new ≡ old) ⊎ (StopsAttaching files old new Memory ⊎ Serves files old new)
-LeavesSpaces other files old new = Serves files old new
+-- What a run leaves of its spaces, given what it is that nothing else was touched: each of those that the words name is
+-- attached. Where one of them can't be, and where memory runs out before all are, nothing else was touched.
+abbrev pub LeavesSpaces : Status → List Space → SpacesSeen → SpacesSeen → (untouched : Type 0) → Type 0
+LeavesSpaces (BadSpace which line) files old new untouched = StopsAttaching files old new (BadSpace which line) × untouched
+LeavesSpaces Memory files old new untouched = (((new ≡ old) ⊎ StopsAttaching files old new Memory) × untouched) ⊎ Serves files old new
+LeavesSpaces other files old new untouched = Serves files old new
 
 -- the file is a catalogue, as the spaces tell
 abbrev pub IsCatalogue : SpacesSeen → List ℕ → Type 0

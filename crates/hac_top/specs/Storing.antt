@@ -1,7 +1,7 @@
 -- What becomes of a store and of its disk as turns are stored and answered.
 use Rattle.std.specs.Prelude.{◌≡◌, ◌⊎◌, ◌||◌, ◌≤◌, ◌+◌, ⊤, ℕ, Bool, false, List, [], ◌∷◌, length, Option, Result, Ok, Err, IfOk, IfErr, OnOk}
 use Rattle.std.specs.Option.{IfSome}
-use Rattle.hac_disk.specs.Images.{LeavesOnly}
+use Rattle.hac_disk.specs.Images.{IsQuiet, IsSettled, LeavesOnly}
 use Rattle.hac_disk.specs.Seen.{DiskSeen}
 use Rattle.hac_outside.specs.Causes.{ReportsFault}
 use Rattle.hac_outside.specs.Seen.{SinkSeen}
@@ -25,6 +25,7 @@ use Rattle.hac_top.specs.Crashes.{Holds, IsTreeAfter, IsTreeOfAnswered}
 use Rattle.hac_top.specs.Ends.{is_disk_fault, met_disk_fault, store_status, reports_disk}
 use Rattle.hac_top.specs.Replies.{CutsWriting, WritesAll}
 use Rattle.hac_top.specs.Ticking.{command_events}
+use Rattle.hac_top.specs.Writes.{GrowsBy, StoresNothing}
 use Rattle.hac_top.specs.declared.status.Status.{Status}
 use Rattle.hac_top.specs.declared.status.Status.TheVariants.{WriteFault, DiskFault, Memory}
 
@@ -34,11 +35,14 @@ storing_reply (Ok _) = Ok (Lines [])
 storing_reply (Err fault.Full) = Ok (Refused (Limit Store))
 storing_reply (Err reason) = Err (store_status reason)
 
--- What became of the disk while a store went on by events: a crash at any moment leaves the tree after some of them.
--- A call of the disk that failed is reported, and no other.
-pub record Stores (old new : DiskSeen) (setting : Setting) (events : List Event) (failed : Bool) : Type 0 where
+-- What became of the disk while a store went on by events to this setting, or stopped on the way: a crash at any moment
+-- leaves the tree after some of them. Where nothing is to be stored, nothing was written. A call of the disk that failed
+-- is reported, and no other; and nothing is pending if none failed and nothing was.
+pub record Stores (old new : DiskSeen) (setting last : Setting) (events : List Event) (failed : Bool) : Type 0 where
   pub moments : Stands old setting →
       LeavesOnly old new (Holds (IsTreeAfter (stored setting.state) events))
+  pub idle : StoresNothing setting last events → IsQuiet old new
+  pub settled : failed ≡ false → IsSettled old → IsSettled new
   pub names : new.attached ≡ old.attached
   pub reported : ReportsFault failed old.faults new.faults
 
@@ -59,39 +63,40 @@ pub record IsUsable (disk : DiskSeen) (store : Seen) : Type 0 where
   pub intact : store.broken ≡ false
   pub place : Bears disk store
 
--- The store has gone on to this setting. It can go on as before, and if the disk stood for what it was, the disk stands
--- for what it is.
-pub record HasGoneOn (old new : DiskSeen) (before after : Seen) (next : Setting) : Type 0 where
+-- The store has gone on to this setting by these events. It can go on as before, and if the disk stood for what it was,
+-- the disk stands for what it is.
+pub record HasGoneOn (old new : DiskSeen) (before after : Seen) (next : Setting) (events : List Event) : Type 0 where
   pub setting : after.setting ≡ next
   pub intact : after.broken ≡ before.broken
   pub place : Bears new after
   pub stands : Stands old before.setting → Stands new after.setting
+  pub grows : GrowsBy old.contents new.contents before.setting next events
 
 -- the store has gone on by a turn, which has this reply
 pub record HasStored (old new : DiskSeen) (before after : Seen) (turn : Turn) (reply : Reply) : Type 0 where
   pub reply_is : reply ≡ turn.reply
-  pub on : HasGoneOn old new before after turn.after
+  pub on : HasGoneOn old new before after turn.after turn.events
 
 -- what storing a turn does
 pub record StoresTurn (old new : DiskSeen) (before after : Seen) (turn : Turn)
     (result : Result Reply Status) : Type 0 where
   pub ok : IfOk result (HasStored old new before after turn)
   pub err : IfErr result StopsCommand
-  pub stores : Stores old new before.setting (all_events (turn ∷ [])) (reports_disk result)
+  pub stores : Stores old new before.setting turn.after (all_events (turn ∷ [])) (reports_disk result)
 
 -- a line was answered: the replies of its turns were written, and the store has gone on by them
 pub record AnswersLine (old new : DiskSeen) (before after : Seen) (sink sink_after : SinkSeen)
     (answered : List Turn) : Type 0 where
   pub replies : WritesAll sink sink_after (turns_text answered)
-  pub on : HasGoneOn old new before after (left_by before.setting answered)
-  pub stores : Stores old new before.setting (all_events answered) false
+  pub on : HasGoneOn old new before after (left_by before.setting answered) (all_events answered)
+  pub stores : Stores old new before.setting (left_by before.setting answered) (all_events answered) false
 
 -- What storing the index steps behind a command does: all of them are stored, or the disk failed or memory ran out.
 pub record StoresSteps (old new : DiskSeen) (before after : Seen) (steps : List Event)
     (result : Result Unit StoreFault) : Type 0 where
-  pub ok : OnOk result (HasGoneOn old new before after (after_events before.setting steps))
+  pub ok : OnOk result (HasGoneOn old new before after (after_events before.setting steps) steps)
   pub err : IfErr result StopsSteps
-  pub stores : Stores old new before.setting steps (met_disk_fault result)
+  pub stores : Stores old new before.setting (after_events before.setting steps) steps (met_disk_fault result)
 
 -- An answer stopped before its reply was written whole and passed on, and no step follows it. If the sink failed, the
 -- events of the command were stored before.
@@ -100,7 +105,7 @@ pub record StopsReply (old new : DiskSeen) (setting : Setting) (sink sink_after 
   pub replies : CutsWriting status sink sink_after (turns_text answered)
   pub stored : status ≡ WriteFault → Stands old setting → (c : List ℕ) → new.image c →
       Holds (λ now. now ≡ apply_all (stored setting.state) (command_events answered)) c
-  pub stores : Stores old new setting (command_events answered) (is_disk_fault status)
+  pub stores : Stores old new setting (left_by setting answered) (command_events answered) (is_disk_fault status)
 
 -- An answer stopped behind its reply, which was written whole and passed on. The events of the command were stored
 -- before, and some of the steps behind it may be, the first ones in order.
@@ -110,7 +115,7 @@ pub record StopsBehind (old new : DiskSeen) (setting : Setting) (sink sink_after
   pub replies : WritesAll sink sink_after (turns_text answered)
   pub left : Stands old setting → (c : List ℕ) → new.image c →
       Holds (IsTreeOfAnswered (stored setting.state) answered (length answered)) c
-  pub stores : Stores old new setting (all_events answered) (is_disk_fault status)
+  pub stores : Stores old new setting (left_by setting answered) (all_events answered) (is_disk_fault status)
 
 -- an answer stopped, at its reply or behind it
 abbrev pub StopsAnswer : (old new : DiskSeen) (setting : Setting) (sink sink_after : SinkSeen)

@@ -1,6 +1,6 @@
 //! Opening: the file of the store is attached, and the store that it holds is loaded, or a new one
 //! is made.
-ghost use Rattle.std.specs.Prelude.{◌≡◌, ◌+◌, ◌≤◌, Err, IfOk, IfErr, IfSome};
+ghost use Rattle.std.specs.Prelude.{◌≡◌, ◌+◌, ◌≤◌, false, Err, IfOk, IfErr, IfSome};
 ghost use Rattle.hac_disk.specs.Images.{IsQuiet, IsSettled, LeavesOnly};
 ghost use Rattle.hac_outside.specs.Causes.{ReportsFault};
 ghost use Rattle.hac_model.specs.Tree.Sessions.{stored};
@@ -44,7 +44,9 @@ pub fn open_store<D: Disk, L: Ledger>(
         LeavesOnly (D.seen disk.old) (D.seen disk.new)
         (Reopens options.now.fresh (λ s. s ≡ stored setting.state)))) }
 
-    // Where the file holds no store, or one that is in the way, nothing is written.
+    // Where no new store is asked for nothing is written, nor where the file holds none, or one that
+    // is in the way.
+    ensures still { options.now.fresh ≡ false → IsQuiet (D.seen disk.old) (D.seen disk.new) }
     ensures quiet { IfSome (D.seen disk.old).contents (λ file. IfErr
         (opening_outcome options.now.fresh (held file))
         (λ _. IsQuiet (D.seen disk.old) (D.seen disk.new))) }

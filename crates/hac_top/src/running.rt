@@ -1,6 +1,6 @@
 //! The run: the spaces are attached, the store is opened, and the script that is read, or one that
 //! is drawn, is played on it.
-ghost use Rattle.std.specs.Prelude.{◌≡◌, ◌≤◌, ◌+◌, ◌⊎◌, ⊤, [], true, false, IfErr, IfSome};
+ghost use Rattle.std.specs.Prelude.{◌≡◌, ◌≤◌, ◌+◌, ◌⊎◌, ⊤, [], false, IfErr, IfSome};
 ghost use Rattle.std.specs.Prelude.{None, Some};
 ghost use Rattle.std.specs.Io.KnownBytes.{Appends};
 ghost use Rattle.hac_disk.specs.Images.{IsQuiet};
@@ -9,12 +9,12 @@ ghost use Rattle.hac_store.specs.Held.{held};
 ghost use Rattle.hac_top.specs.Asking.{StayAttached};
 ghost use Rattle.hac_top.specs.Attaching.{LeavesAttached};
 ghost use Rattle.hac_top.specs.Crashes.{IsOfFile, opening_outcome};
-ghost use Rattle.hac_top.specs.Ends.{IsStoreStatus, is_bad_space, is_disk_fault};
-ghost use Rattle.hac_top.specs.Ends.{is_write_fault};
+ghost use Rattle.hac_top.specs.Ends.{IsStoreStatus, is_disk_fault, is_write_fault};
 ghost use Rattle.hac_top.specs.Making.{IfMakes, Makes, RunsMade};
 ghost use Rattle.hac_top.specs.Run.{AppendsSome, Ends, EndsSo, IfPlays, IfUnopened, RefusesWords};
 ghost use Rattle.hac_top.specs.Run.{RunsFrom, options_in, outside, usage_line};
 ghost use Rattle.hac_top.specs.Spaces.{CanAttach, LeavesSpaces};
+ghost use Rattle.hac_top.specs.Takes.{Takes};
 ghost use Rattle.command_line.specs.Words.{asked_of};
 
 use crate::answering::{Player, write_now};
@@ -68,22 +68,28 @@ pub fn run<S: Source, K: Sink, D: Disk, P: Spaces, L: Ledger>(
         (spaces.new ≡ spaces.old) }
 
     // Each space that the words name is attached, with the documents of its file, and is only asked
-    // since. Where one can't be, it says which and why, and does nothing else.
+    // since. Where one can't be, it says which and why, and does nothing else; nor does it where
+    // memory runs out before all are attached.
     ensures spaces { IfSome (options_in words.now)
-        (λ asked. LeavesSpaces result asked.spaces (P.seen spaces.old) (P.seen spaces.new)) }
-    ensures bad_space { is_bad_space result ≡ true →
-        (input.new ≡ input.old) × (output.new ≡ output.old) × (disk.new ≡ disk.old) ×
-        (probes.new ≡ probes.old) }
+        (λ asked. LeavesSpaces result asked.spaces (P.seen spaces.old) (P.seen spaces.new)
+        ((input.new ≡ input.old) × (output.new ≡ output.old) × (disk.new ≡ disk.old) ×
+        (probes.new ≡ probes.old))) }
 
     // The replies are those of the tree that the store held, given the documents of the spaces and
     // the faults that its commands met. A crash at any moment leaves that tree after some of the
-    // events, at the end those of what was answered, and without a fault the script is played. No
-    // more terms are asked of items than opening the store may take, and each line since.
+    // events, at the end those of what was answered, and without a fault the script is played. On a
+    // store that was there nothing is written but what the commands store. No more terms are asked
+    // of items than opening the store may take, and each line since.
     ensures ran { IfPlays (options_in words.now) (λ asked. RunsFrom
         (D.seen disk.old) (D.seen disk.new) (P.seen spaces.old) (P.seen spaces.new) asked
         (CanAttach asked.spaces (P.seen spaces.old) (P.seen spaces.new))
         (outside (S.seen input.old) (K.seen output.old) probes.old)
         (outside (S.seen input.new) (K.seen output.new) probes.new) result) }
+
+    // Whatever the disk and the spaces tell, the script is read to its end, or as far as shows that
+    // it is too long, or a part of it is.
+    ensures takes { IfPlays (options_in words.now)
+        (λ asked. Takes result (S.seen input.old).left (S.seen input.new).left) }
 
     // Where the script is to be drawn, nothing is read, and the same is true of that script, which
     // is played from a source and to a sink of its own. Then the reply to `counts` is written.
@@ -146,6 +152,8 @@ fn run_store<S: Source, K: Sink, D: Disk, P: Spaces, L: Ledger>(
         (D.seen disk.old) (D.seen disk.new) (P.seen spaces.old) (P.seen spaces.new) asked ⊤
         (outside (S.seen input.old) (K.seen output.old) probes.old)
         (outside (S.seen input.new) (K.seen output.new) probes.new) result) }
+    ensures takes { IfPlays (Some (asked_of options.now))
+        (λ asked. Takes result (S.seen input.old).left (S.seen input.new).left) }
     ensures made { IfMakes (Some (asked_of options.now)) (λ asked number. Makes number
         (outside (S.seen input.old) (K.seen output.old) probes.old)
         (outside (S.seen input.new) (K.seen output.new) probes.new)

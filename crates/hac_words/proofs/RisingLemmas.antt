@@ -14,7 +14,7 @@ use Rattle.std.specs.declared.cmp.Ordering.TheVariants.{Less, Equal, Greater}
 use Rattle.std.proofs.lemmas.List.Kept.{IsStrictlySortedBy-dedup}
 use Rattle.std.proofs.lemmas.List.Sorted.{list_any-IsPermutation}
 use Rattle.hac_words.proofs.RunLemmas.{list_any-map}
-use Rattle.hac_model.proofs.ChangeLemmas.{or-turned}
+use Rattle.hac_model.proofs.BoolLemmas.{or-turned}
 
 or-false : (a : Bool) → a ≡ (a || false)
 or-false true = refl

@@ -147,7 +147,3 @@ stands-nowhere term word text end all nowhere =
     let place = has_term-place term word text has in
     let first = stands-letter term text place.0 0 (word-some (letters_in term) word) place.1 in
     nowhere place.0 (omega arith) (omega (arith, first.0)) place.1)
-
--- one window more
-pub nowhere-further : (term : Term) (text : List ℕ) (from to : ℕ) → StandsNowhere text term 0 from → StandsNowhere text term from to → StandsNowhere text term 0 to
-nowhere-further term text from to before behind at low high stands = ⊎_elim (λ below. before at low below stands) (λ above. behind at above high stands) (cases_lt at from)

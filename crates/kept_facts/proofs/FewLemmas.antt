@@ -3,7 +3,7 @@ use Rattle.std.proofs.Common.{◌≡◌, ℕ, ◌+◌, ◌<◌, ◌≤◌, Bool,
 use Rattle.std.specs.Prelude.{◌==◌, ◌&&◌, not, filter, nat_le, Option, Some, None}
 use Rattle.std.specs.List.{list_all}
 use Rattle.std.specs.Option.{option_map, option_map_or}
-use Rattle.std.proofs.lemmas.Bool.{and_from, and_parts, cases_order, eq-eqb, eqb-true, le-leb, leb-true, ne_eqb}
+use Rattle.std.proofs.lemmas.Bool.{and_parts, cases_order, eq-eqb, eqb-true, le-leb, leb-true, ne_eqb}
 use Rattle.hac_model.specs.Query.Formula.{Formula}
 use Rattle.hac_model.specs.Tree.Events.{apply, asking, changed_at, edited, forgetting, indexed, is_free, is_made_holder, is_placed, marked, may_ask, next_dirty, plain_body, reseated, rewritten}
 use Rattle.hac_model.specs.Script.SpaceNames.{is_space_name}
@@ -26,9 +26,9 @@ use Rattle.hac_model.proofs.ChangeLemmas.{is_kept}
 use Rattle.hac_model.proofs.CountLemmas.{measured, measured-cons, measured-holds, measured-reseated}
 use Rattle.hac_model.proofs.FewLemmas.{asking-keeps, few-added, few-edited, few-same, forgetting-keeps, forgetting_such-keeps, indexed-keeps, mapped-few, marked-keeps, plain-keeps, removed-few, rewritten-keeps, without-few}
 use Rattle.hac_model.proofs.TreeLemmas.{entry_at-low}
-use Rattle.kept_facts.specs.Room.{AreKept, IsLess, IsRoom, all_answers, all_documents, are_few_then, documents_in, fits, numbers_in}
+use Rattle.kept_facts.specs.Room.{AreKept, IsLess, IsRoom, all_answers, all_documents, are_few_then, documents_in, fits}
 use Rattle.kept_facts.specs.declared.room.Room.{Room}
-use Rattle.kept_facts.proofs.RoomLemmas.{few-mounted, few-synced, few-told, le-same}
+use Rattle.kept_facts.proofs.RoomLemmas.{few-mounted, few-synced, few-told}
 use Rattle.kept_facts.proofs.UseLemmas.{rest-all, rest-none, rest_from}
 
 -- The answers of the mounts are taken in order of number.
@@ -204,15 +204,3 @@ module _ (s : State) (h : IsValid s) (e : Event) (placed : is_placed s e ≡ tru
       few-synced s mount (terms_to_ask s.entries) told documents h.layout.numbers there.0 even ∙ sym (ap few_after is)
 
 -- Room for what is told.
-
--- nothing takes no room
-pub few-nothing : (s : State) (gone : List Answer) → IsValid s → are_few_then s.entries gone [] ≡ true
-few-nothing s gone h =
-    and_from (nat_le (all_answers s.entries + 0) (PAIRS_LIMIT + length gone)) (nat_le (all_documents s.entries + numbers_in []) (ANSWERS_LIMIT + documents_in gone))
-    (le-leb (all_answers s.entries + 0) (PAIRS_LIMIT + length gone) (omega (arith, few-answers s h)))
-    (le-leb (all_documents s.entries + numbers_in []) (ANSWERS_LIMIT + documents_in gone) (omega (arith, few-documents s h)))
-
-pub fits-few : (es : List Entry) (gone : List Answer) (told : List (List ℕ)) (room more : Room) → IsRoom es room → IsLess gone more room → fits more told ≡ are_few_then es gone told
-fits-few es gone told room more is less =
-    λ i. le-same (length told) more.answers (all_answers es + length told) (PAIRS_LIMIT + length gone) (omega (arith, is.answers, less.answers)) i
-    && le-same (numbers_in told) more.documents (all_documents es + numbers_in told) (ANSWERS_LIMIT + documents_in gone) (omega (arith, is.documents, less.documents)) i

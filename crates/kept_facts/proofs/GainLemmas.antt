@@ -32,9 +32,6 @@ putting-goes all answers left rest now new answer h is put = record {
   put = put ∙ ap (put_answer answer) h.put;
 }
 
-pub putting-ends : (all answers now : List Answer) → IsPutting all answers [] now → now ≡ with_answers all answers
-putting-ends all answers now h = h.put ∙ ap (λ (more : List Answer). with_answers more answers) h.split
-
 -- of what was told no more is taken than was asked
 pub answers-taken : (terms : List Term) (told : List (List ℕ)) → answers_to terms (take (length terms) told) ≡ answers_to terms told
 answers-taken [] told = refl

@@ -91,13 +91,6 @@ pub record IsOrdering (all left ordered : List Term) : Type 0 where
 pub ordering-ends : (all ordered : List Term) → IsOrdering all [] ordered → ordered ≡ terms_in_order all
 ordering-ends all ordered h = h.order ∙ ap terms_in_order h.split
 
-pub ordering-goes : (all left rest ordered new : List Term) (term : Term) → IsOrdering all left ordered → left ≡ rest ++ term ∷ [] → new ≡ put_term term ordered → IsOrdering all rest new
-ordering-goes all left rest ordered new term h is put = record {
-  done = term ∷ h.done;
-  split = sym (append_assoc rest (term ∷ []) h.done) ∙ ap (λ (ts : List Term). ts ++ h.done) (sym is) ∙ h.split;
-  order = put ∙ ap (put_term term) h.order;
-}
-
 -- The queries are taken in order of number.
 
 -- the entries from a number on

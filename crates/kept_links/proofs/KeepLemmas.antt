@@ -6,14 +6,14 @@ use Rattle.hac_model.specs.Tree.{raised, root_alone}
 use Rattle.hac_model.specs.Tree.Events.{accepted, apply, apply_all}
 use Rattle.hac_model.specs.declared.events.Event.{Event}
 use Rattle.hac_model.specs.declared.events.Event.TheVariants.{Step, Cd}
-use Rattle.hac_model.specs.Tree.Links.{links}
+use Rattle.hac_model.specs.Tree.Links.{is_semantic, links}
 use Rattle.hac_model.specs.Tree.Valid.{IsValid}
 use Rattle.hac_model.specs.declared.states.State.{State}
 use Rattle.hac_model.specs.declared.versions.Version.{Version}
 use Rattle.link_kinds.specs.Kinds.{Lists}
 use Rattle.link_kinds.specs.Seen.{IsEmpty, Known, LinkListsRise, SameKinds}
 use Rattle.reeval.specs.Judging.{verdict_of}
-use Rattle.reeval.specs.Settled.{AreLinksOf, HasRoom, verdict_in}
+use Rattle.reeval.specs.Settled.{AreFresh, AreLinksOf, AreSetsAsked, HasRoom, verdict_in}
 use Rattle.reeval.specs.Told.{news_on, told}
 use Rattle.reeval.specs.declared.verdicts.Change.{Change}
 use Rattle.reeval.proofs.LinkedLemmas.{links-tell, links-told}
@@ -25,6 +25,7 @@ use Rattle.reindex.specs.Ways.{IsWayOf, IsWayOver}
 use Rattle.reindex.specs.declared.ways.Way.{Way}
 use Rattle.kept_links.specs.Kept.{AreLinksKept}
 use Rattle.kept_links.specs.declared.linked.LinkedState.TheInside.{Inside}
+use Rattle.kept_links.proofs.SetLemmas.{asked-few, semantic-steps}
 use Rattle.kept_links.proofs.TaskLemmas.{nothing-new, way-still}
 
 -- the root alone has none
@@ -39,13 +40,16 @@ none-kept version known none = record {
 pub links-led : (s t : State) (old new : Known) (delta : List Change) → AreLinksOf s old → Lead s t delta → IsValid t → LinkListsRise new →
     ((item dir : ℕ) → verdict_in new item dir ≡ told (news_on item delta) (verdict_in old item) dir) → AreLinksOf t new
 links-led s t old new delta are lead valid rise put =
-    links-told t new valid rise (λ item dir. put item dir ∙ (λ i. told (news_on item delta) (λ d. links-tell s old are item d i) dir) ∙ lead item dir)
+    links-told t new valid rise (λ item dir. put item dir ∙ (λ i. told (news_on item delta) (λ d. links-tell s old are item d i) dir) ∙ lead.verdicts item dir)
 
 -- what is ready for nothing has no changes before it
 pub nothing-leads : (s : State) (ready : List Event) (delta : List Change) → ready ≡ [] → delta ≡ [] → Lead s (apply_all s ready) delta
-nothing-leads s ready delta none no_change = λ item dir.
-    ap (λ (changes : List Change). told (news_on item changes) (verdict_of s item) dir) no_change
-    ∙ ap (λ (events : List Event). verdict_of (apply_all s events) item dir) (sym none)
+nothing-leads s ready delta none no_change = record {
+  verdicts = λ item dir.
+      ap (λ (changes : List Change). told (news_on item changes) (verdict_of s item) dir) no_change
+      ∙ ap (λ (events : List Event). verdict_of (apply_all s events) item dir) (sym none);
+  fresh = subst (AreFresh s) (sym no_change) tt;
+}
 
 pub nothing-wanted : (known : Known) (delta : List Change) → delta ≡ [] → HasRoom known delta
 nothing-wanted known delta none = subst (λ (changes : List Change). HasRoom known changes) (sym none) (record { sets = tt; spare = omega arith })
@@ -81,13 +85,15 @@ links-alike s old new are same = record {
 
 -- A state that is ready for nothing, or for what changes no link.
 
-pub kept-none : (inside : Inside) → inside.kept.ready ≡ [] → AreLinksOf inside.kept.state inside.found → IsWayOf inside.kept.state inside.way → inside.delta.items ≡ [] → inside.next ≡ None → AreLinksKept inside
-kept-none inside none are way no_change same = record {
+pub kept-none : (inside : Inside) → inside.kept.ready ≡ [] → AreLinksOf inside.kept.state inside.found → AreSetsAsked inside.kept.state inside.found → IsWayOf inside.kept.state inside.way → inside.delta.items ≡ [] → inside.next ≡ None → AreLinksKept inside
+kept-none inside none are asked way no_change same = record {
   links = are;
   room = nothing-wanted inside.found inside.delta.items no_change;
   leads = nothing-leads inside.kept.state inside.kept.ready inside.delta.items none no_change;
   way = way;
   next = nothing-next inside.kept.state inside.kept.ready inside.way inside.next none same way;
+  sets = asked-few inside.kept.state inside.begun inside.found asked;
+  begun = λ dir _. ap (λ (events : List Event). is_semantic (apply_all inside.kept.state events) dir) (sym none);
 }
 
 -- and a state that is raised, which has the same links
@@ -97,11 +103,12 @@ links-of-raised s known are = record {
   lent = λ dir. are.lent dir ∙ (λ i. (sym (links-raised s) i dir).lent);
 }
 
-pub kept-raised : (s : State) (inside : Inside) → inside.kept ≡ record { state = raised s; ready = [] } → AreLinksOf s inside.found → IsWayOf s inside.way → inside.delta.items ≡ [] → inside.next ≡ None → AreLinksKept inside
-kept-raised s inside is are way no_change same =
+pub kept-raised : (s : State) (inside : Inside) → inside.kept ≡ record { state = raised s; ready = [] } → AreLinksOf s inside.found → AreSetsAsked s inside.found → IsWayOf s inside.way → inside.delta.items ≡ [] → inside.next ≡ None → AreLinksKept inside
+kept-raised s inside is are asked way no_change same =
     let state : inside.kept.state ≡ raised s = ap (λ (seen : Seen). seen.state) is in
     kept-none inside (ap (λ (seen : Seen). seen.ready) is)
     (subst (λ (t : State). AreLinksOf t inside.found) (sym state) (links-of-raised s inside.found are))
+    (subst (λ (t : State). AreSetsAsked t inside.found) (sym state) asked)
     (subst (λ (t : State). IsWayOf t inside.way) (sym state) (way-raised s inside.way way))
     no_change same
 
@@ -109,25 +116,33 @@ kept-raised s inside is are way no_change same =
 pub links-stay : (s : State) (kept : Seen) (found : Known) (ready : List Event) → kept ≡ record { state = s; ready = ready } → AreLinksOf s found → AreLinksOf kept.state found
 links-stay s kept found ready is are = subst (λ (t : State). AreLinksOf t found) (sym (ap (λ (seen : Seen). seen.state) is)) are
 
+pub sets-stay : (s : State) (kept : Seen) (found : Known) (ready : List Event) → kept ≡ record { state = s; ready = ready } → AreSetsAsked s found → AreSetsAsked kept.state found
+sets-stay s kept found ready is asked = subst (λ (t : State). AreSetsAsked t found) (sym (ap (λ (seen : Seen). seen.state) is)) asked
+
 pub way-stays : (s : State) (kept : Seen) (way : Way) (ready : List Event) → kept ≡ record { state = s; ready = ready } → IsWayOf s way → IsWayOf kept.state way
 way-stays s kept way ready is w = subst (λ (t : State). IsWayOf t way) (sym (ap (λ (seen : Seen). seen.state) is)) w
 
 -- a session changes no link
 pub kept-session : (s : State) (session : List ℕ) (dir : ℕ) (inside : Inside) → IsValid s → IsTrue (accepted s (Cd session dir)) → inside.kept ≡ record { state = s; ready = Cd session dir ∷ [] } →
-    AreLinksOf s inside.found → IsWayOf s inside.way → inside.delta.items ≡ [] → inside.next ≡ None → AreLinksKept inside
-kept-session s session dir inside valid ok is are way no_change same = record {
+    AreLinksOf s inside.found → AreSetsAsked s inside.found → IsWayOf s inside.way → inside.delta.items ≡ [] → inside.next ≡ None → AreLinksKept inside
+kept-session s session dir inside valid ok is are asked way no_change same = record {
   links = links-stay s inside.kept inside.found (Cd session dir ∷ []) is are;
   room = nothing-wanted inside.found inside.delta.items no_change;
   leads = subst (λ (seen : Seen). Lead seen.state (apply_all seen.state seen.ready) inside.delta.items) (sym is) leads;
   way = way-stays s inside.kept inside.way (Cd session dir ∷ []) is way;
   next = subst (λ (seen : Seen). IsWayOf (apply_all seen.state seen.ready) (unwrap_or inside.next inside.way)) (sym is)
       (subst (λ (o : Option Way). IsWayOf (apply s (Cd session dir)) (unwrap_or o inside.way)) (sym same) (way-still s (Cd session dir) valid ok inside.way (λ n. refl) way));
+  sets = asked-few inside.kept.state inside.begun inside.found (sets-stay s inside.kept inside.found (Cd session dir ∷ []) is asked);
+  begun = λ d _. subst (λ (seen : Seen). is_semantic seen.state d ≡ is_semantic (apply_all seen.state seen.ready) d) (sym is) refl;
 }
   where
     leads : Lead s (apply s (Cd session dir)) inside.delta.items
-    leads = λ item d.
-        ap (λ (changes : List Change). told (news_on item changes) (verdict_of s item) d) no_change
-        ∙ nothing-new s (Cd session dir) valid ok (λ n. refl) item refl d
+    leads = record {
+      verdicts = λ item d.
+          ap (λ (changes : List Change). told (news_on item changes) (verdict_of s item) d) no_change
+          ∙ nothing-new s (Cd session dir) valid ok (λ n. refl) item refl d;
+      fresh = subst (AreFresh s) (sym no_change) tt;
+    }
 
 -- steps leave the way
 pub steps-way : (s : State) (count : ℕ) (way : Way) → IsValid s → AllHappen s (replicate count Step) → IsWayOf s way → IsWayOf (apply_all s (replicate count Step)) way
@@ -136,12 +151,14 @@ steps-way s (suc count) way valid happen w = steps-way (apply s Step) count way 
 
 -- what is ready for steps
 pub kept-steps : (s : State) (count : ℕ) (inside : Inside) → IsValid s → AllHappen s (replicate count Step) → inside.kept ≡ record { state = s; ready = replicate count Step } →
-    AreLinksOf s inside.found → IsWayOf s inside.way → HasRoom inside.found inside.delta.items → Lead s (apply_all s (replicate count Step)) inside.delta.items → inside.next ≡ None → AreLinksKept inside
-kept-steps s count inside valid happen is are way room leads same = record {
+    AreLinksOf s inside.found → AreSetsAsked s inside.found → IsWayOf s inside.way → HasRoom inside.found inside.delta.items → Lead s (apply_all s (replicate count Step)) inside.delta.items → inside.next ≡ None → AreLinksKept inside
+kept-steps s count inside valid happen is are asked way room leads same = record {
   links = links-stay s inside.kept inside.found (replicate count Step) is are;
   room = room;
   leads = subst (λ (seen : Seen). Lead seen.state (apply_all seen.state seen.ready) inside.delta.items) (sym is) leads;
   way = way-stays s inside.kept inside.way (replicate count Step) is way;
   next = subst (λ (seen : Seen). IsWayOf (apply_all seen.state seen.ready) (unwrap_or inside.next inside.way)) (sym is)
       (subst (λ (o : Option Way). IsWayOf (apply_all s (replicate count Step)) (unwrap_or o inside.way)) (sym same) (steps-way s count inside.way valid happen way));
+  sets = asked-few inside.kept.state inside.begun inside.found (sets-stay s inside.kept inside.found (replicate count Step) is asked);
+  begun = λ d _. subst (λ (seen : Seen). is_semantic seen.state d ≡ is_semantic (apply_all seen.state seen.ready) d) (sym is) (semantic-steps s count valid happen d);
 }

@@ -1,5 +1,6 @@
 pub mod KeepLemmas
 pub mod SemanticLemmas
+pub mod SetLemmas
 pub mod ItemLemmas
 mod TouchLemmas
 pub mod NewDirLemmas

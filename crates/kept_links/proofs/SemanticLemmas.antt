@@ -4,19 +4,17 @@ use Rattle.std.proofs.lemmas.Bool.{eqb-true}
 use Rattle.std.specs.Prelude.{◌&&◌, ◌||◌, ◌==◌, if◌then◌else◌, Option, Some, None, IsTrue, is_some}
 use Rattle.std.specs.Option.{option_map, option_map_or}
 use Rattle.hac_model.specs.Query.Formula.{Formula}
-use Rattle.hac_model.specs.Tree.Events.{accepted, apply, is_inside, is_possible, next_dirty, reseated}
-use Rattle.hac_model.specs.Tree.Limits.{passed_limit}
+use Rattle.hac_model.specs.Tree.Events.{accepted, apply, is_inside, next_dirty, reseated}
 use Rattle.hac_model.specs.Tree.Links.{is_item, is_semantic, query_at}
 use Rattle.hac_model.specs.Tree.Mounting.{is_document_of}
 use Rattle.hac_model.specs.Tree.Touched.{begins, is_the, touches}
 use Rattle.hac_model.specs.Tree.Valid.{IsValid, NumbersRise}
-use Rattle.hac_model.specs.Tree.{entry_at, is_dirty, is_document, is_leaf, is_linkable}
+use Rattle.hac_model.specs.Tree.{entry_at, is_dirty, is_document, is_linkable}
 use Rattle.hac_model.specs.declared.events.Event.{Event}
 use Rattle.hac_model.specs.declared.events.Event.TheVariants.{Mkdir, NewFile, Rewrite, Ln, Smkdir, Setq, Unq, Mark, Mv, Rm, Rmdir, Smount, Ssync, Sumount, Step, Cd}
 use Rattle.hac_model.specs.declared.states.Entry.{Entry}
 use Rattle.hac_model.specs.declared.states.State.{State}
 use Rattle.hac_model.proofs.AcyclicLemmas.{apply-valid}
-use Rattle.hac_model.proofs.ValidLemmas.{accepted-parts}
 use Rattle.hac_model.proofs.ViewLemmas.{seen-kept}
 use Rattle.reeval.proofs.EventLemmas.{query_of}
 use Rattle.reeval.proofs.EventsLeave.{event-owes}
@@ -65,10 +63,7 @@ module _ (s : State) (h : IsValid s) where
   -- and no event touches it
   root-untouched : (event : Event) → IsTrue (accepted s event) → touches s event 0 ≡ false
   root-untouched (NewFile dir name text) ok = apart 0 s.next (rise-more 0 s.next s.entries h.layout.numbers)
-  root-untouched (Rm entry) ok = elim (0 == entry) as (λ b. (0 == entry) ≡ b → b ≡ false) [
-    | true ↦ (λ same. let never : false ≡ true = sym (ap (λ (o : Option Entry). option_map_or is_leaf (option_map (λ (e : Entry). e.body) o) false) (ap (entry_at s.entries) (sym (eqb-true 0 entry same)) ∙ root-none)) ∙ (accepted-parts (is_possible s (Rm entry)) (passed_limit (apply s (Rm entry))) ok).0 in absurd cc)
-    | false ↦ (λ _. refl)
-  ] refl
+  root-untouched (Rm entry) ok = elim (0 == entry) as (λ b. (b && is_item s 0) ≡ false) [ true ↦ root-no_item | false ↦ refl ]
   root-untouched (Mv entry dir name) ok = ap (λ (b : Bool). b && is_inside s 0 entry) root-no_item
   root-untouched (Mark mark) ok = elim (0 == mark.item) as (λ b. (b && is_item s 0) ≡ false) [ true ↦ root-no_item | false ↦ refl ]
   root-untouched Step ok = dirty-above 0 0 s.next s.entries (omega arith) h.layout.numbers
@@ -88,7 +83,7 @@ module _ (s : State) (h : IsValid s) where
   pub asks-still : (event : Event) → IsTrue (accepted s event) → (dir : ℕ) → begins s event dir ≡ false → query_at s dir ≡ query_at (apply s event) dir
   asks-still event ok dir still = (event-owes s event h ok 0 (root-untouched event ok)).queries dir still
 
-  still-semantic : (event : Event) → IsTrue (accepted s event) → (dir : ℕ) → begins s event dir ≡ false → is_semantic s dir ≡ is_semantic (apply s event) dir
+  pub still-semantic : (event : Event) → IsTrue (accepted s event) → (dir : ℕ) → begins s event dir ≡ false → is_semantic s dir ≡ is_semantic (apply s event) dir
   still-semantic event ok dir still = ap (λ (o : Option (Formula ℕ)). is_some o) (asks-still event ok dir still)
 
   pub semantic-still : (event : Event) → IsTrue (accepted s event) → (item : ℕ) → touches s event item ≡ true → (dir : ℕ) → is_semantic s dir ≡ is_semantic (apply s event) dir

@@ -70,7 +70,7 @@ moves s entry dir name accepts =
 
 within-reach : (s : State) (e : Event) → IsLayout s → accepted s e ≡ true → IsWithin (reach_of s e) (touches s e)
 within-reach s (NewFile dir name text) h accepts = λ n is. eqb-true n s.next is
-within-reach s (Rm entry) h accepts = λ n is. eqb-true n entry is
+within-reach s (Rm entry) h accepts = λ n is. eqb-true n entry (and_parts (n == entry) (is_item s n) is).0
 within-reach s (Mv entry dir name) h accepts = at (is_directory_at s.entries entry) refl
   where
     at : (b : Bool) → is_directory_at s.entries entry ≡ b → IsWithin (cond b Any (One entry)) (touches s (Mv entry dir name))

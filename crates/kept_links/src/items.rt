@@ -192,7 +192,7 @@ impl Transition<'_> {
     {
         match self.event {
             Event::NewFile { .. } => item == next_number(self.before),
-            Event::Rm { entry } => item == *entry,
+            Event::Rm { entry } => is_removed(self.before, *entry, item),
             Event::Mv { entry, .. } => is_moved(self.before, *entry, item),
             Event::Mark(mark) => is_marked(self.before, mark, item),
             Event::Step => is_stepped(self.before, item),
@@ -226,6 +226,13 @@ fn is_moved(kept: &KeptState, entry: Number, item: Number) -> bool
     ensures { result ≡ (is_item kept.now.state item && is_inside kept.now.state item entry) }
 {
     is_item(kept, item) && is_inside(kept, item, entry)
+}
+
+/// Whether an item has the number of an entry that is removed. A symbolic link is none.
+fn is_removed(kept: &KeptState, entry: Number, item: Number) -> bool
+    ensures { result ≡ (item == entry && is_item kept.now.state item) }
+{
+    item == entry && is_item(kept, item)
 }
 
 /// Whether the mark is one of an item, which has the number.

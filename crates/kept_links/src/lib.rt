@@ -7,6 +7,7 @@ mod items;
 mod linked;
 mod news;
 mod outlook;
+mod sets;
 mod tasks;
 mod touched;
 mod transition;

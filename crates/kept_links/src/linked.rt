@@ -11,15 +11,16 @@ ghost use Rattle.hac_model.specs.Tree.{raised, root_alone};
 ghost use Rattle.kept_links.specs.Kept.{is_step};
 ghost use Rattle.reeval.specs.Settled.{AreLinksOf};
 
-use crate::news::prepared_news;
+use crate::news::{prepared_news, prepared_steps};
+use crate::sets::drop_plain;
 use hac_model::{Counts, Event, Memory, Name, Number, Term, Version};
 use hac_outside::Steps;
 use hac_words::has_term;
 use kept_lookups::{is_document, parent_of, shown_of};
 use kept_state::KeptState;
 use link_kinds::Links;
-use reeval::{Change, apply, reserve};
-use reindex::{Way, delta_of_steps};
+use reeval::{Change, apply};
+use reindex::Way;
 use std::alloc::Global;
 use std::marker::Model;
 use std::sync::ledger::Ledger;
@@ -35,6 +36,9 @@ pub struct LinkedState {
     pub(crate) delta: Vec<Change>,
     // All semantic directories then, if there are others, or they are in another order.
     pub(crate) next: Option<Way>,
+    // The directory at which the prepared event begins. It alone may have sets and not be semantic,
+    // until the event is applied or dropped.
+    pub(crate) begun: Option<Number>,
 }
 
 impl Model for LinkedState {
@@ -63,6 +67,7 @@ impl LinkedState {
             way: Way::new(alloc),
             delta: Vec::new(alloc),
             next: None,
+            begun: None,
         })
     }
 
@@ -122,11 +127,14 @@ impl LinkedState {
         }
         self.delta.clear();
         self.next = None;
+        drop_plain(&self.kept, &mut self.found, self.begun);
+        self.begun = None;
         self.kept.prepare(alloc, event, counts)?;
         match prepared_news(alloc, &self.kept, &mut self.found, &self.way, probes) {
             Ok(news) => {
                 self.delta = news.delta;
                 self.next = news.way;
+                self.begun = news.begun;
                 Ok(())
             }
             Err(memory) => {
@@ -150,6 +158,8 @@ impl LinkedState {
     {
         self.delta.clear();
         self.next = None;
+        drop_plain(&self.kept, &mut self.found, self.begun);
+        self.begun = None;
         self.kept.know_valid();
         self.kept.prepare_session(alloc, session, dir)?;
         Ok(())
@@ -171,10 +181,11 @@ impl LinkedState {
     {
         self.delta.clear();
         self.next = None;
+        drop_plain(&self.kept, &mut self.found, self.begun);
+        self.begun = None;
         self.kept.prepare_steps(0);
         self.kept.know_valid();
-        let delta = delta_of_steps(alloc, &self.kept, &self.found, &self.way, count, probes)?;
-        reserve(&mut self.found, delta.as_slice())?;
+        let delta = prepared_steps(alloc, &self.kept, &mut self.found, &self.way, count, probes)?;
         self.kept.prepare_steps(count);
         self.delta = delta;
         Ok(())
@@ -187,10 +198,13 @@ impl LinkedState {
     {
         self.delta.clear();
         self.next = None;
+        drop_plain(&self.kept, &mut self.found, self.begun);
+        self.begun = None;
         self.kept.raise();
     }
 
-    /// Applies the prepared events. This takes no memory, and can't fail.
+    /// Applies the prepared events. This takes no memory, and can't fail. A directory that isn't
+    /// semantic any more gives back its sets.
     pub fn commit(&mut self)
         ensures { self.new ≡ record {
           state = apply_all self.old.state self.old.ready;
@@ -203,6 +217,8 @@ impl LinkedState {
         put_way(&mut self.way, &mut self.next);
         self.kept.know_valid();
         self.found.know_lists();
+        drop_plain(&self.kept, &mut self.found, self.begun);
+        self.begun = None;
     }
 }
 

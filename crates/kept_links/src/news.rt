@@ -1,18 +1,22 @@
 //! What is new in the links behind an event.
-ghost use Rattle.std.specs.Prelude.{◌≡◌, ◌≤◌, ◌+◌, ◌==◌, ℕ, false, IfOk};
+ghost use Rattle.std.specs.Prelude.{◌≡◌, ◌≤◌, ◌+◌, ◌==◌, ℕ, false, replicate, IfOk, OnErr};
+ghost use Rattle.hac_model.specs.Laws.{AllHappen};
 ghost use Rattle.hac_model.specs.Tree.Costs.{costs};
+ghost use Rattle.hac_model.specs.Tree.Events.{apply_all};
 ghost use Rattle.hac_model.specs.Tree.Touched.{begins};
+ghost use Rattle.hac_model.specs.declared.events.Event.TheVariants.{Step};
 ghost use Rattle.kept_links.specs.Coming.{BeginsNowhere, IsComing, cost_of};
 ghost use Rattle.kept_links.specs.Coming.{state_before, state_behind};
-ghost use Rattle.kept_links.specs.Kept.{AreNews, is_still};
+ghost use Rattle.kept_links.specs.Kept.{AreNews, AreSetsFew, is_still};
 ghost use Rattle.kept_state.specs.After.{are_quiet, next_state};
-ghost use Rattle.link_kinds.specs.Seen.{SameKinds};
-ghost use Rattle.reeval.specs.Settled.{AreLinksOf, HasRoom};
+ghost use Rattle.reeval.specs.Settled.{AreLinksOf, AreSetsAsked, HasRoom};
+ghost use Rattle.reindex.specs.Past.{Lead};
 ghost use Rattle.reindex.specs.Ways.{IsWayOf};
 
 use crate::coming::Coming;
 use crate::items::begin;
 use crate::outlook::Outlook;
+use crate::sets::drop_plain;
 use crate::tasks::{task_from, way_next};
 use crate::touched::delta_of_touched;
 use crate::transition::Transition;
@@ -21,7 +25,7 @@ use hac_outside::Steps;
 use kept_state::KeptState;
 use link_kinds::Links;
 use reeval::{Change, plan, reserve};
-use reindex::{Past, Way};
+use reindex::{Past, Way, delta_of_steps};
 use std::alloc::Global;
 use std::sync::ledger::Ledger;
 
@@ -32,10 +36,13 @@ pub(crate) struct News {
     pub(crate) delta: Vec<Change>,
     /// The way to all semantic directories, where it is another one.
     pub(crate) way: Option<Way>,
+    /// The directory at which the event begins. No other becomes semantic, or plain.
+    pub(crate) begun: Option<Number>,
 }
 
 /// What will be new behind the event that a state is ready for, which is no step and moves no
-/// session, and the memory for it. No link changes, whatever the answer.
+/// session, and the memory for it. No link changes, whatever the answer, and if memory ran out no
+/// directory keeps sets that isn't semantic.
 pub(crate) fn prepared_news<L: Ledger>(
     alloc: Global,
     kept: &KeptState,
@@ -44,16 +51,53 @@ pub(crate) fn prepared_news<L: Ledger>(
     probes: &mut Steps<L>,
 ) -> Result<News, Memory>
     requires links { AreLinksOf kept.now.state found.old }
+    requires sets { AreSetsAsked kept.now.state found.old }
     requires way { IsWayOf kept.now.state way.now }
     requires event { are_quiet kept.now.ready ≡ false }
-    ensures same { SameKinds found.old found.new }
+    ensures links { AreLinksOf kept.now.state found.new }
     ensures news { IfOk result (AreNews kept.now.state (next_state kept.now) way.now) }
     ensures room { IfOk result (λ news. HasRoom found.new news.delta.items) }
+    ensures sets { IfOk result (λ news. AreSetsFew kept.now.state news.begun found.new) }
+    ensures err { OnErr result (AreSetsAsked kept.now.state found.new) }
     ensures probes { probes.new ≤ probes.old + costs kept.now.state kept.now.ready }
 {
+    kept.know_valid();
     let news = next_news(alloc, kept, found, way, probes)?;
-    reserve(found, news.delta.as_slice())?;
-    Ok(news)
+    match reserve(found, news.delta.as_slice()) {
+        Ok(()) => Ok(news),
+        Err(memory) => {
+            drop_plain(kept, found, news.begun);
+            drop(news);
+            Err(memory)
+        }
+    }
+}
+
+/// What will be new behind so many steps, and the memory for it. No link changes, and no directory
+/// gets sets that isn't semantic, whatever the answer.
+pub(crate) fn prepared_steps<L: Ledger>(
+    alloc: Global,
+    kept: &KeptState,
+    found: &mut Links,
+    way: &Way,
+    count: u64,
+    probes: &mut Steps<L>,
+) -> Result<Vec<Change>, Memory>
+    requires links { AreLinksOf kept.now.state found.old }
+    requires sets { AreSetsAsked kept.now.state found.old }
+    requires way { IsWayOf kept.now.state way.now }
+    requires happen { AllHappen kept.now.state (replicate count Step) }
+    ensures links { AreLinksOf kept.now.state found.new }
+    ensures sets { AreSetsAsked kept.now.state found.new }
+    ensures leads { IfOk result (λ delta.
+        Lead kept.now.state (apply_all kept.now.state (replicate count Step)) delta.items) }
+    ensures room { IfOk result (λ delta. HasRoom found.new delta.items) }
+    ensures probes { probes.new ≤ probes.old + costs kept.now.state (replicate count Step) }
+{
+    kept.know_valid();
+    let delta = delta_of_steps(alloc, kept, found, way, count, probes)?;
+    reserve(found, delta.as_slice())?;
+    Ok(delta)
 }
 
 /// What will be new behind the event that a state is ready for.
@@ -101,6 +145,7 @@ fn news_of<L: Ledger>(
         return Ok(News {
             delta: Vec::new(alloc),
             way: None,
+            begun: None,
         });
     }
     match begin(coming.kept, coming.event) {
@@ -154,6 +199,7 @@ fn news_from<L: Ledger>(
     Ok(News {
         delta,
         way: Some(way),
+        begun: Some(first),
     })
 }
 
@@ -171,5 +217,9 @@ fn news_of_touched<L: Ledger>(
 {
     coming.kept.know_valid();
     let delta = delta_of_touched(alloc, coming, probes)?;
-    Ok(News { delta, way: None })
+    Ok(News {
+        delta,
+        way: None,
+        begun: None,
+    })
 }

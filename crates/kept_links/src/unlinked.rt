@@ -6,7 +6,7 @@ ghost use Rattle.hac_model.specs.Tree.Limits as limits;
 ghost use Rattle.hac_model.specs.Tree.Links.{has, transient_at};
 ghost use Rattle.hac_model.specs.Tree.Sessions.{is_stored};
 ghost use Rattle.hac_model.specs.Tree.{root_alone};
-ghost use Rattle.reeval.specs.Settled.{AreLinksOf};
+ghost use Rattle.reeval.specs.Settled.{AreLinksOf, AreSetsAsked};
 ghost use Rattle.reindex.specs.Ways.{IsWayOf};
 
 use crate::items::begin;
@@ -121,6 +121,7 @@ impl UnlinkedState {
                 way,
                 delta: Vec::new(alloc),
                 next: None,
+                begun: None,
             }),
             Err(memory) => {
                 drop(self);
@@ -138,6 +139,7 @@ fn way_and_links<L: Ledger>(
 ) -> Result<(Way, Links), Memory>
     ensures way { IfOk result (λ both. IsWayOf kept.now.state both.0) }
     ensures links { IfOk result (λ both. AreLinksOf kept.now.state both.1) }
+    ensures sets { IfOk result (λ both. AreSetsAsked kept.now.state both.1) }
     ensures probes { probes.new ≤ probes.old + opening kept.now.state }
 {
     let way = way_of(alloc, kept)?;

@@ -187,9 +187,6 @@ pub will-ready : (g : graph.Seen) (dir : ℕ) (wanted : List ℕ) (edges : Optio
 will-ready g dir wanted None will = tt
 will-ready g dir wanted (Some new) will = will.ready
 
-pub will-put : (old new : graph.Seen) (edges : NewEdges) (dir : ℕ) (wanted : List ℕ) → AreEdges old dir wanted edges → ((q : ℕ) → edges_of new q ≡ replaced (edges_of old) edges.dir edges.edges.items q) → (q : ℕ) → edges_of new q ≡ replaced (edges_of old) dir wanted q
-will-put old new edges dir wanted are each q = each q ∙ (λ i. replaced (edges_of old) (are.dir_is i) (are.edges_are i) q)
-
 pub will-stay : (g : graph.Seen) (dir : ℕ) (wanted : List ℕ) → edges_of g dir ≡ wanted → (q : ℕ) → edges_of g q ≡ replaced (edges_of g) dir wanted q
 will-stay g dir wanted has q = at (q == dir) refl
   where

@@ -18,7 +18,7 @@ use Rattle.hac_model.specs.declared.marks.Kind.TheVariants.{Transient, Permanent
 use Rattle.hac_model.specs.declared.states.Body.{Body}
 use Rattle.hac_model.specs.declared.states.Entry.{Entry}
 use Rattle.hac_model.specs.declared.states.State.{State}
-use Rattle.hac_model.proofs.AlikeLemmas.{bare-kind, counts-bare, directory-bare, dirty-same, document-bare, file-bare, for-bare, is_bare-bare, is_free-bare, is_inside-bare, item-told, layout-bare, layout-unbare, may_ask-bare, mount-bare, parent_of-bare, path_of-bare, query_at-bare, shown-bare, some-bare, symlink-bare, target_at-bare}
+use Rattle.hac_model.proofs.AlikeLemmas.{counts-bare, directory-bare, dirty-same, document-bare, file-bare, for-bare, is_bare-bare, is_free-bare, is_inside-bare, item-told, layout-bare, layout-unbare, may_ask-bare, mount-bare, parent_of-bare, path_of-bare, query_at-bare, shown-bare, some-bare, symlink-bare, target_at-bare}
 use Rattle.hac_model.proofs.BareLemmas.{bare-commutes}
 use Rattle.hac_model.proofs.FillLemmas.{bare-joined}
 use Rattle.hac_model.proofs.MapLemmas.{test-mapped}
@@ -26,6 +26,7 @@ use Rattle.hac_model.proofs.MountFactLemmas.{terms-bare}
 use Rattle.file_tree.specs.Answers.{numbers_of}
 use Rattle.kept_state.specs.Parts.{IsLinked, facts_kept, state_of}
 use Rattle.kept_state.specs.declared.parts.Parts.{Parts}
+use Rattle.hac_model.proofs.KindLemmas as kinds
 
 -- a leaf is a file or a symbolic link
 pub leaf-told : (es : List Entry) (n : ℕ) → is_leaf_at es n ≡ (is_file_at es n || is_symlink_at es n)
@@ -68,7 +69,7 @@ module _ (s t : State) (bares : bare s ≡ bare t) where
   same-target n = alike (λ s. option_and_then target_in (body_at s.entries n)) (λ s. target_at-bare s n)
 
   pub same-made : (n : ℕ) → is_made_directory s.entries n ≡ is_made_directory t.entries n
-  same-made n = alike (λ s. is_made_directory s.entries n) (λ s. test-mapped is_directory bare_body s.entries n bare-kind)
+  same-made n = alike (λ s. is_made_directory s.entries n) (λ s. test-mapped is_directory bare_body s.entries n (kinds.keeps-directory bare_body kinds.role-bare))
 
   pub same-some : (n : ℕ) → is_some (entry_at s.entries n) ≡ is_some (entry_at t.entries n)
   same-some n = alike (λ s. is_some (entry_at s.entries n)) (λ s. some-bare s n)

@@ -16,7 +16,7 @@ use Rattle.dep_graph.specs.declared.graph.NewEdges.{NewEdges}
 use Rattle.file_tree.specs.Changes.{MayBecome}
 use Rattle.file_tree.specs.Documents.{numbers_for}
 use Rattle.file_tree.specs.declared.ready.Ready.TheVariants as tree
-use Rattle.file_tree.specs.declared.tree.EntryKind.TheVariants as kind
+use Rattle.hac_model.specs.declared.states.EntryKind.TheVariants as kind
 use Rattle.link_kinds.specs.Seen.{has_sets}
 use Rattle.kept_facts.specs.Answers.{WillReplace, answers_kept, answers_next}
 use Rattle.kept_state.specs.Gains.{answers_then}

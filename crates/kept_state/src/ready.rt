@@ -22,8 +22,10 @@ ghost use Rattle.kept_state.specs.Ready.{IsPreparedFor, ready_events};
 use crate::forgetting::{forget_gone, forget_mount};
 use crate::parts::Parts;
 use dep_graph::{Graph, NewEdges};
-use file_tree::{EntryKind, NewBody};
-use hac_model::{Counts, DOCS_LIMIT, Event, Mark, Memory, Name, Number, Query, Seq, Session, Text};
+use file_tree::NewBody;
+use hac_model::{
+    Counts, DOCS_LIMIT, EntryKind, Event, Mark, Memory, Name, Number, Query, Seq, Session, Text,
+};
 use std::alloc::Global;
 use std::mem;
 

@@ -1,6 +1,6 @@
 -- A reader that gives the bytes behind a line.
 use Rattle.std.proofs.Common.{◌≡◌, ℕ, ◌+◌, ◌-◌, ◌<◌, ◌≤◌, Bool, true, false, List, [], ◌∷◌, ◌++◌, length, take, drop, refl, ap, sym, ◌∙◌, arith, rules, append_assoc, append-nil, length-append, length-drop, drop-drop, subst, inl, Option, Some, None}
-use Rattle.std.specs.Prelude.{◌⊎◌, nat_le, nat_lt, if◌then◌else◌, min, max, Result, Ok, Err, IfErr, OnErr}
+use Rattle.std.specs.Prelude.{◌⊎◌, nat_le, nat_lt, if◌then◌else◌, min, max, Result, Ok, Err, IfErr}
 use Rattle.std.specs.List.{position_or_len}
 use Rattle.std.specs.Io.KnownBytes.{prepend_known, Consumes, IsAtEnd}
 use Rattle.std.proofs.Math.Seq.{take-append_seam, drop-append_seam, drop-nil}
@@ -64,12 +64,6 @@ came-whole count front rest e =
     let part : take count (front ++ rest) ≡ front = ap (λ (n : ℕ). take n (front ++ rest)) (sym e) ∙ take-append_seam front rest in
     ap (λ (short : Bool). if short then Short else (if nat_le count TEXT_LIMIT then Whole (take count (front ++ rest)) else Dropped)) all
     ∙ ap (λ (text : List ℕ). if nat_le count TEXT_LIMIT then Whole text else Dropped) part
-
--- fewer bytes came
-came-short : (count : ℕ) (bytes : List ℕ) → length bytes < count → came count bytes ≡ Short
-came-short count bytes fewer =
-    let short : nat_lt (length bytes) count ≡ true = grind (arith, common_steps, fewer) in
-    ap (λ (b : Bool). if b then Short else (if nat_le count TEXT_LIMIT then Whole (take count bytes) else Dropped)) short
 
 at-end : (buffered : List ℕ) (left : Option (List ℕ)) → buffered ≡ [] → IsAtEnd left → IsAtEnd (prepend_known buffered left)
 at-end buffered None none end = tt
@@ -223,12 +217,7 @@ drops-falls fault asked due old now before after was many more =
       source = record { ended = was.source.ended; nothing = was.source.nothing; last = was.source.last; near = omega (arith, was.source.near, was.counted) };
     }
 
--- what holds in any case holds where the answer is a failure
-pub on-err : {T E P : Type 0} (result : Result T E) → P → OnErr result P
-on-err (Ok value) holds = tt
-on-err (Err fault) holds = holds
-
--- the same of what holds of any fault
+-- what holds of any fault holds where the answer is a failure
 pub if-err : {T E : Type 0} (result : Result T E) (P : E → Type 0) → ((fault : E) → P fault) → IfErr result P
 if-err (Ok value) P holds = tt
 if-err (Err fault) P holds = holds fault

@@ -1,10 +1,8 @@
 //! Trials of crates below the machine: real files and streams, bytes written by hand, and calls
-//! that the program doesn't make yet, once each with ample memory. It knows no machine and no run,
+//! that the program doesn't make, once each with ample memory. It knows no machine and no run,
 //! so its proof need not wait for theirs. There is nothing here for other crates.
 #![tactic(auto)]
 
-#[cfg(test)]
-mod answers;
 #[cfg(test)]
 mod areas;
 #[cfg(test)]
@@ -15,8 +13,6 @@ mod commands;
 mod files;
 #[cfg(test)]
 mod gathering;
-#[cfg(test)]
-mod indexes;
 #[cfg(test)]
 mod logs;
 #[cfg(test)]

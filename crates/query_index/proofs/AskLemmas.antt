@@ -20,8 +20,9 @@ use Rattle.hac_model.specs.declared.terms.Term.{Term}
 use Rattle.hac_model.specs.declared.terms.Term.TheVariants.{Word, Prefix}
 use Rattle.query_index.specs.Asking.{is_listed}
 use Rattle.query_index.specs.Numbers.{any_below}
-use Rattle.query_index.proofs.ListLemmas.{agree, any-either, below-any, below-at, below-none, below-some, or-false}
+use Rattle.query_index.proofs.ListLemmas.{any-either, below-any, below-at, below-none, below-some}
 use Rattle.hac_model.proofs.NameOrderLemmas.{same-turned}
+use Rattle.hac_model.proofs.BoolLemmas.{agree, or-false}
 
 -- ---- one term
 

@@ -19,10 +19,11 @@ use Rattle.query_index.specs.Numbers.{AddsAll, AreThose, any_below}
 use Rattle.query_index.specs.Seen.{ArePlaces, IsIndexOf, Seen, answer_of, asks_at, place_of, places_of}
 use Rattle.query_index.specs.declared.met.Met.{Met}
 use Rattle.query_index.proofs.AskLemmas.{begins, some-asked}
-use Rattle.query_index.proofs.ListLemmas.{and-false, and-true, any-either, any-filter, any-met, any-none, below-at, below-none, below-some, or-assoc, or-false}
+use Rattle.query_index.proofs.ListLemmas.{any-either, any-filter, any-met, any-none, below-at, below-none, below-some, or-assoc}
 use Rattle.query_index.proofs.NumberLemmas.{adds-alike, adds-both, adds-none, eqb-suc}
 use Rattle.query_index.proofs.PostingLemmas.{one-there, stands-as, stands-there}
 use Rattle.hac_model.proofs.NameOrderLemmas.{same-turned}
+use Rattle.hac_model.proofs.BoolLemmas.{and-false, and-true, or-false}
 
 abbrev Queries : Type 0
 Queries = List (Option (Formula ℕ))
@@ -44,12 +45,6 @@ meets-both index these those old mid new first second = record {
   beginnings = adds-alike old.beginnings.items new.beginnings.items (λ at. list_any (λ word. begins_at index.beginnings word at) these || list_any (λ word. begins_at index.beginnings word at) those) (λ at. list_any (λ word. begins_at index.beginnings word at) (these ++ those))
       (adds-both old.beginnings.items mid.beginnings.items new.beginnings.items (λ at. list_any (λ word. begins_at index.beginnings word at) these) (λ at. list_any (λ word. begins_at index.beginnings word at) those) first.beginnings second.beginnings)
       (λ at. sym (list_any-append (λ word. begins_at index.beginnings word at) these those));
-}
-
-pub meets-one : (index : Seen) (word : List ℕ) (old new : Met) → AddsAll old.words.items new.words.items (is_at index.words word) → AddsAll old.beginnings.items new.beginnings.items (begins_at index.beginnings word) → Meets index (word ∷ []) old new
-meets-one index word old new words beginnings = record {
-  words = adds-alike old.words.items new.words.items (is_at index.words word) (λ at. is_at index.words word at || false) words (λ at. sym (or-false (is_at index.words word at)));
-  beginnings = adds-alike old.beginnings.items new.beginnings.items (begins_at index.beginnings word) (λ at. begins_at index.beginnings word at || false) beginnings (λ at. sym (or-false (begins_at index.beginnings word at)));
 }
 
 -- the places of letters that were met as words are those of the words

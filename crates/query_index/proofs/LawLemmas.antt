@@ -13,7 +13,7 @@ use Rattle.hac_model.specs.declared.terms.Term.{Term}
 use Rattle.hac_model.proofs.KeepingLemmas.{all-parted}
 use Rattle.query_index.specs.Asking.{asks_beyond, asks_for, can_be, is_listed}
 use Rattle.query_index.specs.Laws.{UnaskedTermsStay, UnfitQueriesFail}
-use Rattle.query_index.proofs.ListLemmas.{agree}
+use Rattle.hac_model.proofs.BoolLemmas.{agree, and-false}
 
 -- ---- terms for which no word that is beyond others is asked
 
@@ -94,11 +94,7 @@ not-not true = refl
 not-not false = refl
 
 both-fail : (a b : Bool) → (a && b) ≡ false → (p q : Bool) → (a ≡ false → p ≡ false) → (b ≡ false → q ≡ false) → (p && q) ≡ false
-both-fail true b is p q left right = ap (λ (c : Bool). p && c) (right is) ∙ last p
-  where
-    last : (p : Bool) → (p && false) ≡ false
-    last true = refl
-    last false = refl
+both-fail true b is p q left right = ap (λ (c : Bool). p && c) (right is) ∙ and-false p
 both-fail false b is p q left right = ap (λ (c : Bool). c && q) (left refl)
 
 one-holds : (a b : Bool) → (a && b) ≡ false → (p q : Bool) → (a ≡ false → p ≡ true) → (b ≡ false → q ≡ true) → (p || q) ≡ true

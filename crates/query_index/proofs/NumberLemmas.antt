@@ -1,19 +1,19 @@
 -- Numbers that are added to others, and numbers in order.
-use Rattle.std.proofs.Common.{◌≡◌, ℕ, suc, ◌+◌, Bool, true, false, cond, List, [], ◌∷◌, eqb, refl, ap, subst, sym, ◌∙◌, arith}
-use Rattle.std.specs.Prelude.{◌==◌, ◌||◌, ◌++◌, IsPermutation, IsSorted}
+use Rattle.std.proofs.Common.{◌≡◌, ℕ, suc, Bool, true, false, cond, List, [], ◌∷◌, eqb, refl, ap, subst, sym, ◌∙◌, arith}
+use Rattle.std.specs.Prelude.{◌==◌, ◌||◌, IsPermutation, IsSorted}
 use Rattle.std.specs.List.{dedup, dedup_from}
 use Rattle.std.specs.List.Retain.{DiffersFromLast, IsFiltered}
 use Rattle.std.specs.Ordering.{nat_cmp}
 use Rattle.std.proofs.lemmas.Bool.{eq-eqb, eqb-true}
 use Rattle.std.proofs.lemmas.List.Filters.{dedup_is}
-use Rattle.std.proofs.lemmas.List.Folds.{list_any-append}
 use Rattle.std.proofs.lemmas.List.Sorted.{list_any-IsPermutation}
 use Rattle.std.proofs.lemmas.Map.Keys.{IsStrictlyIncreasing-dedup}
 use Rattle.hac_model.specs.Tree.Links.{has}
 use Rattle.hac_model.specs.Tree.Valid.{RiseFrom}
 use Rattle.query_index.specs.Numbers.{AddsAll}
-use Rattle.query_index.proofs.ListLemmas.{agree, or-assoc, or-false}
+use Rattle.query_index.proofs.ListLemmas.{or-assoc}
 use Rattle.hac_model.proofs.SortedLemmas.{steps-rise}
+use Rattle.hac_model.proofs.BoolLemmas.{agree, or-false}
 
 pub eqb-suc : (a b : ℕ) → (suc a == suc b) ≡ (a == b)
 eqb-suc a b = agree (suc a == suc b) (a == b) (λ is. eq-eqb a b (omega (arith, eqb-true (suc a) (suc b) is))) (λ is. eq-eqb (suc a) (suc b) (omega (arith, eqb-true a b is)))
@@ -28,12 +28,6 @@ adds-alike old new p q adds same n = adds n ∙ ap (λ (b : Bool). has old n || 
 
 pub adds-both : (old mid new : List ℕ) (p q : ℕ → Bool) → AddsAll old mid p → AddsAll mid new q → AddsAll old new (λ n. p n || q n)
 adds-both old mid new p q first second n = second n ∙ ap (λ (b : Bool). b || q n) (first n) ∙ or-assoc (has old n) (p n) (q n)
-
-pub adds-more : (old new more : List ℕ) → new ≡ old ++ more → AddsAll old new (has more)
-adds-more old new more is n = ap (λ (ns : List ℕ). has ns n) is ∙ list_any-append (λ x. x == n) old more
-
-pub adds-one : (old new : List ℕ) (m : ℕ) → new ≡ old ++ m ∷ [] → AddsAll old new (λ n. m == n)
-adds-one old new m is n = adds-more old new (m ∷ []) is n ∙ ap (λ (b : Bool). has old n || b) (or-false (m == n))
 
 -- Numbers in order.
 

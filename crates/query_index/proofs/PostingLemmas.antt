@@ -15,7 +15,8 @@ use Rattle.hac_model.specs.Tree.Links.{has}
 use Rattle.query_index.specs.Inner.{AddsPlace, begins_at, is_at, places_in}
 use Rattle.query_index.specs.Seen.{place_of, places_of}
 use Rattle.query_index.specs.Sieve.{passes}
-use Rattle.query_index.proofs.ListLemmas.{agree, below-none, or-false}
+use Rattle.query_index.proofs.ListLemmas.{below-none}
+use Rattle.hac_model.proofs.BoolLemmas.{agree, or-false, or-true}
 
 abbrev pub Letters : Type 0
 Letters = Vec ℕ Global
@@ -224,9 +225,6 @@ nowhere (e ∷ es) letters none =
 pub none-met : (o : Option ℕ) → o ≡ None → (n : ℕ) → false ≡ option_map_or (λ found. found == n) o false
 none-met o is n = ap (λ (o : Option ℕ). option_map_or (λ found. found == n) o false) (sym is)
 
-pub one-met : (o : Option ℕ) (at : ℕ) → o ≡ Some at → (n : ℕ) → (at == n) ≡ option_map_or (λ found. found == n) o false
-one-met o at is n = ap (λ (o : Option ℕ). option_map_or (λ found. found == n) o false) (sym is)
-
 -- the places that are kept there
 pub kept-seen : (entries : List (Letters × Letters)) (at : ℕ) → option_map_or (λ entry. entry.1.items) (slice_get entries at) [] ≡ places_in (map (λ entry. (entry.0.items, entry.1.items)) entries) at
 kept-seen [] at = refl
@@ -245,31 +243,14 @@ pub unpassed-nowhere : (entries : List (Letters × Letters)) (marks : List Bool)
     place_of (map (λ entry. (entry.0.items, entry.1.items)) entries) letters ≡ None
 unpassed-nowhere entries marks letters all none = nowhere entries letters (unpassed (is_some (lookup (is_for letters) entries)) (passes marks letters) (all letters) none)
 
--- all letters pass where some pass besides those that did, and only these are new
-pub pass-more : (old new : List Bool) (before after : List (Letters × Letters)) (letters : List ℕ) → ((others : List ℕ) → is_some (lookup (is_for others) before) ≡ true → passes old others ≡ true) →
-    ((others : List ℕ) → passes old others ≡ true → passes new others ≡ true) → passes new letters ≡ true →
-    ((others : List ℕ) → is_some (lookup (is_for others) after) ≡ true → (is_some (lookup (is_for others) before) || bytes_eq others letters) ≡ true) →
-    (others : List ℕ) → is_some (lookup (is_for others) after) ≡ true → passes new others ≡ true
-pass-more old new before after letters all still own more others there =
-    of (is_some (lookup (is_for others) before)) refl (bytes_eq others letters) refl (more others there)
-  where
-    of : (b : Bool) → is_some (lookup (is_for others) before) ≡ b → (c : Bool) → bytes_eq others letters ≡ c → (b || c) ≡ true → passes new others ≡ true
-    of true was c is either = still others (all others was)
-    of false was true is either = ap (passes new) (same others letters is) ∙ own
-    of false was false is either = absurd (false≢true either)
-
 -- only the letters that are put in are new
 pub new-letters : (letters others : List ℕ) (es : List (Letters × Letters)) (k v : Letters) → k.items ≡ letters → is_some (lookup (is_for others) (insert_entry same_key es k v)) ≡ true → (is_some (lookup (is_for others) es) || bytes_eq others letters) ≡ true
 new-letters letters others es k v key there = of (bytes_eq others k.items) refl (sym (ap is_some (inserted others es k v)) ∙ there)
   where
-    right : (b : Bool) → (b || true) ≡ true
-    right true = refl
-    right false = refl
-
     of : (b : Bool) → bytes_eq others k.items ≡ b → is_some (cond b (Some v) (lookup (is_for others) es)) ≡ true → (is_some (lookup (is_for others) es) || bytes_eq others letters) ≡ true
     of true is there =
         ap (λ (c : Bool). is_some (lookup (is_for others) es) || c) (ap (bytes_eq others) (sym key) ∙ is)
-        ∙ right (is_some (lookup (is_for others) es))
+        ∙ or-true (is_some (lookup (is_for others) es))
     of false is there = or_left (is_some (lookup (is_for others) es)) (bytes_eq others letters) there
 
 -- no letters come or go where places are written

@@ -1,5 +1,5 @@
 //! A quick look whether letters may be in an index. Most words of a text are in none.
-ghost use Rattle.std.specs.Prelude.{◌≡◌, ◌<◌, ◌≤◌, ℕ, [], IsTrue, List, OnOk, length};
+ghost use Rattle.std.specs.Prelude.{◌≡◌, ◌<◌, ◌≤◌, ◌⊎◌, ℕ, [], IsTrue, List, OnOk, length};
 ghost use Rattle.query_index.specs.Sieve.{has_number, next, number_of, passes};
 
 use hac_model::Memory;
@@ -42,6 +42,8 @@ impl Sieve {
         ensures admitted { OnOk result (IsTrue (passes self.new letters.now)) }
         ensures others { (others : List ℕ) → IsTrue (passes self.old others)
             → IsTrue (passes self.new others) }
+        ensures only { (number : ℕ) → IsTrue (has_number self.new number)
+            → number ≡ number_of letters.now ⊎ IsTrue (has_number self.old number) }
     {
         make_marks(&mut self.marks)?;
         self.marks[number_of(letters)] = true;
@@ -69,8 +71,8 @@ impl Sieve {
 /// Makes a mark for each number that has none. It says that no letters have the number.
 fn make_marks(marks: &mut Vec<bool>) -> Result<(), Memory>
     ensures all { OnOk result (NUMBERS ≤ length marks.new.items) }
-    ensures still { (number : ℕ) → IsTrue (has_number marks.old.items number)
-        → IsTrue (has_number marks.new.items number) }
+    ensures same { (number : ℕ) → has_number marks.new.items number
+        ≡ has_number marks.old.items number }
 {
     if marks.len() < NUMBERS {
         marks.resize(NUMBERS, false)?;

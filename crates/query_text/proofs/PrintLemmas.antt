@@ -4,7 +4,7 @@ use Rattle.std.specs.Prelude.{◌||◌, not, codes}
 use Rattle.std.specs.Char.{to_ascii_lowercase, is_ascii_uppercase}
 use Rattle.std.specs.List.{list_all}
 use Rattle.std.specs.Str.{bytes_eq}
-use Rattle.std.proofs.lemmas.Bool.{and_parts}
+use Rattle.std.proofs.lemmas.Bool.{and_parts, not-true}
 use Rattle.std.proofs.lemmas.Bool.Decides.{nat_tests}
 use Rattle.std.proofs.lemmas.Slice.Eq.{bytes_eq-Decides}
 use Rattle.hac_model.specs.Query.Formula.{Formula}
@@ -27,11 +27,7 @@ lower_byte : (b : ℕ) → is_lower_word_byte b ≡ true → IsLower b
 unfolding is_lower_word_byte
 lower_byte b h =
     let both = and_parts (is_word_byte b) (not (is_ascii_uppercase b)) h in
-    record { word = both.0; small = turned (is_ascii_uppercase b) both.1 }
-  where
-    turned : (x : Bool) → not x ≡ true → x ≡ false
-    turned true e = cc
-    turned false e = refl
+    record { word = both.0; small = not-true (is_ascii_uppercase b) both.1 }
 
 lower_stays : (b : ℕ) → is_ascii_uppercase b ≡ false → b ≡ to_ascii_lowercase b
 lower_stays b h = grind (arith, nat_tests)

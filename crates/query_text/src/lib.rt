@@ -13,7 +13,7 @@ mod sizes;
 mod stepping;
 
 pub use faults::QueryFault;
-pub use paths::{NamedDir, Paths};
+pub use paths::Paths;
 pub use printing::{around, braced, joined, print, term_text};
 pub use reading::parse;
 pub use sizes::is_query;

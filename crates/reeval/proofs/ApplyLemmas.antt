@@ -1,15 +1,17 @@
 -- New verdicts, put into the links that are kept.
-use Rattle.std.proofs.Common.{◌≡◌, ℕ, ◌+◌, ◌≤◌, Bool, true, false, List, [], ◌∷◌, length, refl, ap, sym, ◌∙◌, arith}
+use Rattle.std.proofs.Common.{◌≡◌, ℕ, zero, suc, ◌+◌, ◌*◌, ◌<◌, ◌≤◌, Bool, true, false, List, [], ◌∷◌, ◌++◌, get_or, length, refl, ap, subst, sym, ◌∙◌, arith}
 use Rattle.std.proofs.Math.Dec.{eqb}
+use Rattle.std.proofs.Math.Nat.{le-max_left, le-max_right, max-le}
+use Rattle.std.proofs.lemmas.List.{drop_more, take_more}
 use Rattle.std.proofs.lemmas.Bool.{eq-eqb, eqb-true}
-use Rattle.std.specs.Prelude.{◌&&◌, ◌||◌, ◌==◌, if◌then◌else◌, not, IsTrue}
-use Rattle.std.specs.List.{AllByRecursion}
+use Rattle.std.specs.Prelude.{◌&&◌, ◌||◌, ◌==◌, drop, if◌then◌else◌, max, not, take, IsTrue}
+use Rattle.std.specs.List.{AllByRecursion, list_any}
 use Rattle.hac_model.specs.declared.marks.Kind.TheVariants.{Transient, Unlinked}
 use Rattle.link_kinds.specs.Kinds.{Lists, with_kind, with_lent}
 use Rattle.link_kinds.specs.Seen.{ChangesDir, Known, SameLinks, has_sets, lists_in}
 use Rattle.set_pool.specs.Rising.{inserted, is_among, removed}
 use Rattle.set_pool.proofs.PoolLemmas.{among-inserted, among-removed}
-use Rattle.reeval.specs.Settled.{HasRoom, verdict_in}
+use Rattle.reeval.specs.Settled.{AreSetsFor, HasRoom, verdict_in}
 use Rattle.reeval.specs.Told.{latest, news_on, told}
 use Rattle.reeval.specs.declared.verdicts.Change.{Change}
 use Rattle.reeval.specs.declared.verdicts.Verdict.{Verdict}
@@ -103,3 +105,62 @@ room-left old new first rest room same spare = record {
     all : (news : List Change) → AllByRecursion (λ change. IsTrue (has_sets old change.dir)) news → AllByRecursion (λ change. IsTrue (has_sets new change.dir)) news
     all [] h = tt
     all (change ∷ news) h = (same change.dir ∙ h.0, all news h.1)
+
+-- What is taken for changes.
+
+pub most_begins : (old calls : ℕ) → old ≤ max old calls
+most_begins old calls = le-max_left old calls
+
+pub most_again : (old calls mid new : ℕ) → mid ≤ max old calls → new ≡ max mid calls → new ≤ max old calls
+most_again old calls mid new most is = subst (λ (n : ℕ). n ≤ max old calls) (sym is) (max-le most (le-max_right old calls))
+
+pub most_ends : (old calls n new : ℕ) → new ≤ max old calls → calls ≡ n * 2 → new ≤ max old (n + n)
+most_ends old calls n new most is = subst (λ (k : ℕ). new ≤ max old k) (is ∙ omega arith) most
+
+-- the directory of one change more has its sets
+pub have-more : (mid new : Known) (changes : List Change) (i : ℕ) (change : Change) → i < length changes → change ≡ get_or changes i change → ((d : ℕ) → has_sets new d ≡ (has_sets mid d || d == change.dir)) →
+    AllByRecursion (λ other. IsTrue (has_sets mid other.dir)) (take i changes) → AllByRecursion (λ other. IsTrue (has_sets new other.dir)) (take (i + 1) changes)
+have-more mid new changes i change less is sets all =
+    subst (AllByRecursion (λ (other : Change). IsTrue (has_sets new other.dir))) (sym (take_more changes i change less ∙ ap (λ (last : Change). take i changes ++ last ∷ []) (sym is))) (joined (take i changes) all)
+  where
+    either : (a b : Bool) → b ≡ true → (a || b) ≡ true
+    either true b is = refl
+    either false b is = is
+
+    had : (d : ℕ) → has_sets mid d ≡ true → has_sets new d ≡ true
+    had d was = sets d ∙ ap (λ (b : Bool). b || d == change.dir) was
+
+    joined : (front : List Change) → AllByRecursion (λ other. IsTrue (has_sets mid other.dir)) front → AllByRecursion (λ other. IsTrue (has_sets new other.dir)) (front ++ change ∷ [])
+    joined [] h = (sets change.dir ∙ either (has_sets mid change.dir) (change.dir == change.dir) (eq-eqb change.dir change.dir refl), tt)
+    joined (first ∷ front) h = (had first.dir h.0, joined front h.1)
+
+-- no directory has got sets yet
+pub sets_begin : (old : Known) (changes : List Change) → AreSetsFor old old changes
+sets_begin old changes dir is = ap (λ (b : Bool). b || list_any (λ (other : Change). other.dir == dir) changes) is
+
+-- that of a change gets some
+told-there : (changes : List Change) (i : ℕ) (change : Change) (rest : List Change) (dir : ℕ) → drop i changes ≡ change ∷ rest → (change.dir == dir) ≡ true → list_any (λ other. other.dir == dir) changes ≡ true
+told-there changes zero change rest dir is here = ap (list_any (λ (other : Change). other.dir == dir)) is ∙ ap (λ (b : Bool). b || list_any (λ (other : Change). other.dir == dir) rest) here
+told-there [] (suc i) change rest dir is here = absurd cc
+told-there (first ∷ changes) (suc i) change rest dir is here =
+    elim (first.dir == dir) as (λ b. (b || list_any (λ (other : Change). other.dir == dir) changes) ≡ true) [ true ↦ refl | false ↦ told-there changes i change rest dir is here ]
+
+pub sets_more : (old mid new : Known) (changes : List Change) (i : ℕ) (change : Change) → i < length changes → change ≡ get_or changes i change → AreSetsFor old mid changes →
+    ((d : ℕ) → has_sets new d ≡ (has_sets mid d || d == change.dir)) → AreSetsFor old new changes
+sets_more old mid new changes i change less is had sets dir has = at (has_sets mid dir) refl (sym (sets dir) ∙ has)
+  where
+    left : drop i changes ≡ change ∷ drop (i + 1) changes
+    left = drop_more changes i change less ∙ ap (λ (first : Change). first ∷ drop (i + 1) changes) (sym is)
+
+    last : (a b : Bool) → b ≡ true → (a || b) ≡ true
+    last true b any = refl
+    last false b any = any
+
+    at : (b : Bool) → has_sets mid dir ≡ b → (b || dir == change.dir) ≡ true → (has_sets old dir || list_any (λ (other : Change). other.dir == dir) changes) ≡ true
+    at true was _ = had dir was
+    at false _ here =
+        last (has_sets old dir) (list_any (λ (other : Change). other.dir == dir) changes) (told-there changes i change (drop (i + 1) changes) dir left (eqb-turned change.dir dir ∙ here))
+
+-- or none does
+pub sets_stay : (old mid new : Known) (changes : List Change) → AreSetsFor old mid changes → SameLinks mid new → AreSetsFor old new changes
+sets_stay old mid new changes had same dir is = had dir (sym (same dir) ∙ is)

@@ -1,6 +1,7 @@
 pub mod JudgeLemmas
 pub mod MeaningLemmas
 pub mod ToldLemmas
+pub mod FreshLemmas
 pub mod SettleLemmas
 pub mod NotedLemmas
 pub mod ProbeLemmas

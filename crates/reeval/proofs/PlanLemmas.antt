@@ -9,7 +9,7 @@ use Rattle.hac_model.specs.Tree.{empty}
 use Rattle.hac_model.specs.declared.states.State.{State}
 use Rattle.reeval.specs.Judging.{AreJudged, LeavesAlike, is_linked, judgement, no_verdict, verdict_of}
 use Rattle.reeval.specs.Routes.{Covers}
-use Rattle.reeval.specs.Settled.{IsPlanned, SettlesAll}
+use Rattle.reeval.specs.Settled.{AreFresh, IsPlanned, SettlesAll}
 use Rattle.reeval.specs.Told.{news_on, told}
 use Rattle.reeval.specs.declared.planning.Task.{Task}
 use Rattle.reeval.specs.declared.verdicts.Change.{Change}
@@ -62,6 +62,9 @@ begins-more s t item fewer more within alike = record {
 -- both lists of items, one behind the other
 module _ (s t : State) (task : Task) (planned : IsPlanned s t task) (apart : (item : ℕ) → Among task.touched.items item → Among task.others.items item → ⊥)
     (first second : List Change) (some : SettlesAll s t task.everywhere.items task.touched.items [] first) (more : SettlesAll s t task.along.items task.others.items first second) where
+  pub all-fresh : AreFresh s second
+  all-fresh = more.fresh planned.others (some.fresh planned.touched tt)
+
   pub all-told : (item dir : ℕ) → told (news_on item second) (verdict_of s item) dir ≡ verdict_of t item dir
   all-told item dir = elim (has task.touched.items item) as (λ b. has task.touched.items item ≡ b → told (news_on item second) (verdict_of s item) dir ≡ verdict_of t item dir) [
     | true ↦ (λ is. let inside = has-among task.touched.items item is in

@@ -197,6 +197,10 @@ module _ (s t : State) (item : ℕ) (stops : List Stop) (covers : Covers s t sto
     early : (e : ℕ) → Among (depends t dir) e → has (dir ∷ left) e ≡ false
     early e edge = absent (dir ∷ left) e (h.ordered.1 e edge)
 
+    -- nothing new is known of it yet
+    pub still-unsaid : known dir ≡ before dir
+    still-unsaid = h.others dir was-left
+
     -- another that is passed was passed before
     cases : (d : ℕ) → passed left d ≡ true → (dir ≡ d) ⊎ (passed (dir ∷ left) d ≡ true)
     cases d is = elim (dir == d) as (λ b. (dir == d) ≡ b → (dir ≡ d) ⊎ ((has dirs d && not (b || has left d)) ≡ true)) [

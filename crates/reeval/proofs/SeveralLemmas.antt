@@ -8,10 +8,11 @@ use Rattle.hac_model.specs.Tree.Depends.{Among}
 use Rattle.hac_model.specs.declared.states.State.{State}
 use Rattle.reeval.specs.Judging.{verdict_of}
 use Rattle.reeval.specs.Routes.{Covers}
-use Rattle.reeval.specs.Settled.{SettlesAll}
+use Rattle.reeval.specs.Settled.{AreFresh, SettlesAll}
 use Rattle.reeval.specs.Told.{is_on, news_on, told}
 use Rattle.reeval.specs.declared.settling.Stop.{Stop}
 use Rattle.reeval.specs.declared.verdicts.Change.{Change}
+use Rattle.reeval.proofs.FreshLemmas.{fresh-joined}
 use Rattle.reeval.proofs.ToldLemmas.{news-here, news-there}
 
 -- all items but those that are left are settled
@@ -21,6 +22,7 @@ pub record PartlySettled (s t : State) (stops : List Stop) (items left : List �
   pub settled : (item : ℕ) → Among items item → ¬ Among left item → news_on item old ≡ [] → Covers s t stops item →
       (dir : ℕ) → told (news_on item new) (verdict_of s item) dir ≡ verdict_of t item dir
   pub others : (item : ℕ) → ¬ Among items item ⊎ Among left item → news_on item new ≡ news_on item old
+  pub fresh : ((item : ℕ) → Among items item → Covers s t stops item) → AreFresh s old → AreFresh s new
 
 pub partly-none : (s t : State) (stops : List Stop) (items : List ℕ) (news : List Change) → EachOnce items → PartlySettled s t stops items items news news
 partly-none s t stops items news once = record {
@@ -28,18 +30,20 @@ partly-none s t stops items news once = record {
   some = λ item inside. inside;
   settled = λ item inside out. absurd (out inside);
   others = λ item _. refl;
+  fresh = λ covers known. known;
 }
 
 pub partly-all : (s t : State) (stops : List Stop) (items : List ℕ) (old new : List Change) → PartlySettled s t stops items [] old new → SettlesAll s t stops items old new
 partly-all s t stops items old new h = record {
   settled = λ item inside. h.settled item inside (λ never. never);
   others = λ item out. h.others item (inl out);
+  fresh = h.fresh;
 }
 
 pub partly-more : (s t : State) (stops : List Stop) (items : List ℕ) (item : ℕ) (left : List ℕ) (old new more : List Change) →
     PartlySettled s t stops items (item ∷ left) old new → list_all (is_on item) more ≡ true →
-    (Covers s t stops item → (dir : ℕ) → told more (verdict_of s item) dir ≡ verdict_of t item dir) → PartlySettled s t stops items left old (new ++ more)
-partly-more s t stops items item left old new more h own news = record {
+    (Covers s t stops item → (dir : ℕ) → told more (verdict_of s item) dir ≡ verdict_of t item dir) → (Covers s t stops item → AreFresh s more) → PartlySettled s t stops items left old (new ++ more)
+partly-more s t stops items item left old new more h own news fresh = record {
   once = h.once.1;
   some = λ x inside. h.some x (inr inside);
   settled = λ x inside out none covers dir. elim (item == x) as (λ b. (item == x) ≡ b → told (news_on x (new ++ more)) (verdict_of s x) dir ≡ verdict_of t x dir) [
@@ -51,6 +55,7 @@ partly-more s t stops items item left old new more h own news = record {
     | true ↦ (λ same. absurd (inside-left x (eqb-true item x same) out))
     | false ↦ (λ other. let apart = differ x other in news-there new more item x own apart ∙ h.others x (wider x out))
   ] refl;
+  fresh = λ covers known. fresh-joined s new more (h.fresh covers known) (fresh (covers item (h.some item (inl refl))));
 }
   where
     differ : (x : ℕ) → (item == x) ≡ false → (item ≡ x) → ⊥

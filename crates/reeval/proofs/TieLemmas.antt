@@ -18,7 +18,7 @@ use Rattle.hac_model.specs.declared.states.Entry.{Entry}
 use Rattle.hac_model.specs.declared.states.State.{State}
 use Rattle.hac_model.proofs.AcyclicLemmas.{apply-valid, edge-directory}
 use Rattle.hac_model.proofs.FactLemmas.{facts-law, permanent-fact, prohibited-fact}
-use Rattle.hac_model.proofs.ValidLemmas.{marked-kind}
+use Rattle.hac_model.proofs.KindLemmas.{keeps-directory, role-marked}
 use Rattle.hac_model.proofs.ViewLemmas.{seen-kept}
 use Rattle.reeval.specs.Judging.{FindsAlike, TiesAlike}
 use Rattle.reeval.specs.declared.verdicts.Verdict.{Verdict}
@@ -52,7 +52,7 @@ module _ (s : State) (mark : Mark) (item : ℕ) (h : IsValid s) (ok : IsTrue (ac
 
   directories : (n : ℕ) → is_directory_at s.entries n ≡ is_directory_at t.entries n
   directories n = ap (λ (b : Bool). n == 0 || b)
-      (sym (seen-kept (λ (o : Option Entry). option_map_or is_directory (option_map (λ (e : Entry). e.body) o) false) s.entries mark.dir (edited edit) (λ e. refl) (λ e. marked-kind mark.item mark.kind e.body) n))
+      (sym (seen-kept (λ (o : Option Entry). option_map_or is_directory (option_map (λ (e : Entry). e.body) o) false) s.entries mark.dir (edited edit) (λ e. refl) (λ e. keeps-directory edit (role-marked mark.item mark.kind) e.body) n))
 
   -- What it leaves of an item that it doesn't touch.
 

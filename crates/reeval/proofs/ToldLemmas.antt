@@ -71,7 +71,7 @@ news-other (first ∷ news) item other all apart = elim (first.item == item) as 
   | false ↦ (λ _ never. absurd cc)
 ] refl all
 
-news-joined : (news more : List Change) (item : ℕ) → news_on item (news ++ more) ≡ news_on item news ++ news_on item more
+pub news-joined : (news more : List Change) (item : ℕ) → news_on item (news ++ more) ≡ news_on item news ++ news_on item more
 news-joined [] more item = refl
 news-joined (first ∷ news) more item = elim (first.item == item) as (λ b. (if b then first ∷ news_on item (news ++ more) else news_on item (news ++ more)) ≡ (if b then first ∷ news_on item news else news_on item news) ++ news_on item more) [
   | true ↦ ap (λ (all : List Change). first ∷ all) (news-joined news more item)

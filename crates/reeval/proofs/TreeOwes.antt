@@ -4,9 +4,9 @@ use Rattle.std.specs.Prelude.{◌==◌, ◌&&◌, if◌then◌else◌, not, Opti
 use Rattle.std.specs.Option.{option_map, option_map_or}
 use Rattle.std.proofs.lemmas.Bool.{ne_eqb, or_right}
 use Rattle.hac_model.specs.Tree.Events.{accepted, added, apply, changed_at, edited, forgetting, forgotten, indexed, is_possible, next_dirty, plain_body, removed, rewritten, without}
-use Rattle.hac_model.specs.Tree.Facts.{Facts, facts_after, facts_of, no_facts}
+use Rattle.hac_model.specs.Tree.Facts.{Facts, facts_after, facts_of, no_facts, put_at}
 use Rattle.hac_model.specs.Tree.Limits.{passed_limit}
-use Rattle.hac_model.specs.Tree.Links.{has, is_semantic, query_at}
+use Rattle.hac_model.specs.Tree.Links.{has, is_item, is_semantic, query_at}
 use Rattle.hac_model.specs.Tree.Mounting.{is_document_of}
 use Rattle.hac_model.specs.Tree.Mounts.{kept_for}
 use Rattle.hac_model.specs.Tree.Touched.{touches}
@@ -161,7 +161,7 @@ module _ (s : State) (item : ℕ) (h : IsValid s) where
   pub rm-owes : (leaf : ℕ) → IsTrue (accepted s (event.Rm leaf)) → touches s (event.Rm leaf) item ≡ false → Owes s (event.Rm leaf) item
   rm-owes leaf ok other = record {
     sight =
-        put-other (λ n. item_in (entry_at s.entries n)) leaf None item other
+        gone (is_item s item) refl
         ∙ sym (seen-removed item_in s.entries leaf item)
         ∙ sym (kept item_in (λ e. forgetting-item leaf e.parent e.body) item);
     queries = λ d still.
@@ -170,8 +170,8 @@ module _ (s : State) (item : ℕ) (h : IsValid s) where
         ∙ sym (kept query_of (λ e. forgetting-query leaf e.body) d);
     facts = λ is d still. record {
       edges = refl;
-      added = has-other leaf (facts_of s d).marks.permanent item other;
-      removed = has-other leaf (facts_of s d).marks.prohibited item other;
+      added = has-other leaf (facts_of s d).marks.permanent item (apart is);
+      removed = has-other leaf (facts_of s d).marks.prohibited item (apart is);
     };
     answers = λ mount own term known. refl;
     below = owed-below s t item h (apply-valid s (event.Rm leaf) h ok) (parents-then s u t h.layout (removed-parents s leaf) (mapped-stay u t (forgetting leaf) refl)
@@ -183,6 +183,23 @@ module _ (s : State) (item : ℕ) (h : IsValid s) where
 
       t : State
       t = forgotten (removed s leaf) leaf
+
+      -- an item is another one than the leaf
+      apart : is_item s item ≡ true → (item == leaf) ≡ false
+      apart is = at (item == leaf) (ap (λ (b : Bool). (item == leaf) && b) (sym is) ∙ other)
+        where
+          at : (b : Bool) → (b && true) ≡ false → b ≡ false
+          at true never = absurd cc
+          at false out = refl
+
+      -- and what is none isn't seen, whether it goes or not
+      gone : (b : Bool) → is_item s item ≡ b → item_in (entry_at s.entries item) ≡ put_at (λ n. item_in (entry_at s.entries n)) leaf None item
+      gone true is = put-other (λ n. item_in (entry_at s.entries n)) leaf None item (apart is)
+      gone false plain = at (item == leaf) (unseen (entry_at s.entries item) plain)
+        where
+          at : (b : Bool) → item_in (entry_at s.entries item) ≡ None → item_in (entry_at s.entries item) ≡ (if b then None else item_in (entry_at s.entries item))
+          at true none = none
+          at false none = refl
 
       kept : {X : Type 0} (view : Option Entry → X) → ((e : Entry) → view (Some (edited (forgetting leaf) e)) ≡ view (Some e)) → (n : ℕ) → view (entry_at t.entries n) ≡ view (entry_at u.entries n)
       kept view same n = ap view (entry_at-mapped (forgetting leaf) u.entries n) ∙ at (entry_at u.entries n)

@@ -1,7 +1,8 @@
 //! New verdicts, put into the links that are kept.
 ghost use Rattle.std.specs.Prelude.{◌≡◌, ◌≤◌, ◌+◌, ◌==◌, ◌&&◌, ℕ, IsTrue, OnOk, if◌then◌else◌};
+ghost use Rattle.std.specs.Prelude.{length, max};
 ghost use Rattle.link_kinds.specs.Seen.{SameKinds, SameLinks, has_sets};
-ghost use Rattle.reeval.specs.Settled.{HasRoom, verdict_in};
+ghost use Rattle.reeval.specs.Settled.{AreSetsFor, HasRoom, verdict_in};
 ghost use Rattle.reeval.specs.Told.{news_on, told};
 
 use crate::verdicts::Change;
@@ -12,6 +13,10 @@ use link_kinds::Links;
 pub fn reserve(found: &mut Links, delta: &[Change]) -> Result<(), Memory>
     ensures room { OnOk result (HasRoom found.new delta.now) }
     ensures same { SameKinds found.old found.new }
+
+    // Whatever the answer, no more was taken than that.
+    ensures most { found.new.spare ≤ max found.old.spare (length delta.now + length delta.now) }
+    ensures sets { AreSetsFor found.old found.new delta.now }
 {
     let Some(calls) = (delta.len() as u64).checked_mul(2) else {
         return Err(Memory);
@@ -26,8 +31,9 @@ pub fn reserve(found: &mut Links, delta: &[Change]) -> Result<(), Memory>
 /// takes no memory.
 pub fn apply(found: &mut Links, delta: &[Change])
     requires { HasRoom found.old delta.now }
-    ensures { (item dir : ℕ) → verdict_in found.new item dir
+    ensures verdicts { (item dir : ℕ) → verdict_in found.new item dir
         ≡ told (news_on item delta.now) (verdict_in found.old item) dir }
+    ensures sets { SameLinks found.old found.new }
 {
     for change in delta {
         put(found, change);

@@ -4,7 +4,7 @@ ghost use Rattle.dep_graph.specs.Searches.{EachOnce};
 ghost use Rattle.hac_model.specs.Tree.Depends.{Among};
 ghost use Rattle.reeval.specs.Judging.{verdict_of};
 ghost use Rattle.reeval.specs.Probes.{terms_planned};
-ghost use Rattle.reeval.specs.Settled.{IsPlanned};
+ghost use Rattle.reeval.specs.Settled.{AreFresh, IsPlanned};
 ghost use Rattle.reeval.specs.Told.{news_on, told};
 
 use crate::before::Before;
@@ -45,6 +45,8 @@ pub fn plan<Y: Layout, B: Before, L: Ledger>(
         → IfOk result (λ delta. (item dir : ℕ)
         → told (news_on item delta.items) (verdict_of (B.state before.now) item) dir
         ≡ verdict_of (Y.state layout.now) item dir) }
+    ensures fresh { IsPlanned (B.state before.now) (Y.state layout.now) task.now
+        → IfOk result (λ delta. AreFresh (B.state before.now) delta.items) }
     ensures probes { IsPlanned (B.state before.now) (Y.state layout.now) task.now → probes.new ≤ probes.old
         + terms_planned (B.state before.now) (Y.state layout.now) task.now }
 {

@@ -10,7 +10,7 @@ ghost use Rattle.hac_model.specs.Tree.Links.{column, has, links, provide};
 ghost use Rattle.reeval.specs.Judging.{is_linked, judgement, verdict_of};
 ghost use Rattle.reeval.specs.Probes.{is_moved, terms_along, terms_asked, terms_settled};
 ghost use Rattle.reeval.specs.Routes.{Covers};
-ghost use Rattle.reeval.specs.Settled.{SettlesAll};
+ghost use Rattle.reeval.specs.Settled.{AreFresh, SettlesAll};
 ghost use Rattle.reeval.specs.Told.{is_on, told};
 
 use crate::before::Before;
@@ -53,6 +53,8 @@ pub fn settle<Y: Layout, B: Before, L: Ledger>(
         → IfOk result (λ news. (dir : ℕ) →
         told news.items (verdict_of (B.state before.now) item) dir
         ≡ verdict_of (Y.state layout.now) item dir) }
+    ensures fresh { Covers (B.state before.now) (Y.state layout.now) stops.now item
+        → IfOk result (λ news. AreFresh (B.state before.now) news.items) }
     ensures most { probes.new ≤ probes.old + terms_along (Y.state layout.now) stops.now }
     ensures few { Covers (B.state before.now) (Y.state layout.now) stops.now item
         → is_moved (B.state before.now) (Y.state layout.now) stops.now item ≡ false
@@ -159,6 +161,9 @@ fn judge_anew<Y: Layout, B: Before, L: Ledger>(
         ≡ (if d == dir then judgement (Y.state layout.now)
         (is_linked (told news.old.items (verdict_of (B.state before.now) item))) item dir
         else told news.old.items (verdict_of (B.state before.now) item) d)) }
+    ensures fresh { OnOk result (told news.old.items (verdict_of (B.state before.now) item) dir
+        ≡ verdict_of (B.state before.now) item dir
+        → AreFresh (B.state before.now) news.old.items → AreFresh (B.state before.now) news.new.items) }
     ensures probes { probes.new ≤ probes.old
         + (if asks then terms_at (Y.state layout.now) dir else 0) }
 {

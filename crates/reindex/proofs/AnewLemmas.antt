@@ -1,36 +1,47 @@
 -- The links of a state as they are found from nothing, item by item.
-use Rattle.std.proofs.Common.{◌≡◌, ℕ, ◌+◌, ◌≤◌, Bool, true, false, cond, List, [], ap, eq-eqb, refl, sym, subst, ◌∙◌, arith}
+use Rattle.std.proofs.Common.{◌≡◌, ℕ, ◌+◌, ◌≤◌, Bool, true, false, cond, List, [], ◌∷◌, ap, eq-eqb, refl, sym, subst, ◌∙◌, arith}
 use Rattle.std.specs.Prelude.{◌==◌, nat_lt, None, IfOk, Result, Ok, Err, Vec}
-use Rattle.std.specs.List.{list_all}
+use Rattle.std.specs.List.{AllByRecursion, list_all}
 use Rattle.std.specs.declared.alloc.Global.{Global}
 use Rattle.std.proofs.lemmas.Bool.{eqb-true}
 use Rattle.std.proofs.lemmas.Bool.Decides.{nat_tests}
-use Rattle.hac_model.specs.Tree.Links.{is_item, is_judged}
+use Rattle.hac_model.specs.Tree.Links.{is_item, is_judged, is_semantic}
 use Rattle.hac_model.specs.Tree.Valid.{IsValid}
 use Rattle.hac_model.specs.Tree.{entry_at}
 use Rattle.hac_model.specs.declared.memory.Memory.{Memory}
 use Rattle.hac_model.specs.declared.states.State.{State}
 use Rattle.hac_model.proofs.TreeLemmas.{entry_at-next}
-use Rattle.link_kinds.specs.Seen.{IsEmpty, Known, LinkListsRise, SameKinds}
+use Rattle.link_kinds.specs.Seen.{IsEmpty, Known, LinkListsRise, SameKinds, SameLinks}
 use Rattle.reeval.specs.Judging.{is_linked, no_verdict, verdict_of}
 use Rattle.reeval.specs.Routes.{Covers}
-use Rattle.reeval.specs.Settled.{AreLinksOf, verdict_in}
-use Rattle.reeval.specs.Told.{is_on, latest, news_on, told}
+use Rattle.reeval.specs.Settled.{AreFresh, AreLinksOf, AreSetsAsked, AreSetsFor, verdict_in}
+use Rattle.reeval.specs.Told.{are_same, is_on, latest, news_on, told}
 use Rattle.reeval.specs.declared.settling.Stop.{Stop}
 use Rattle.reeval.specs.declared.verdicts.Change.{Change}
+use Rattle.reeval.proofs.FreshLemmas.{sets-pass, some-pass}
 use Rattle.reeval.proofs.JudgeLemmas.{links-judged}
 use Rattle.reeval.proofs.LinkedLemmas.{links-told, told-alike, told-nothing}
 use Rattle.reeval.proofs.PlanLemmas.{no-item, unjudged-said}
 use Rattle.reeval.proofs.ToldLemmas.{news-here, news-there}
 use Rattle.reindex.specs.Anew.{AreAllNews, AreLinksBelow, LendsNothing}
+use Rattle.reindex.proofs.GoneLemmas.{plain-said}
 use Rattle.hac_model.proofs.ListedLemmas.{none-item}
 
 -- One item.
+
+abbrev AllSaySome : List Change → Type 0
+AllSaySome news = AllByRecursion (λ change. are_same change.verdict no_verdict ≡ false) news
+
+-- what is new where nothing was said says something
+fresh-some : (u : State) → ((item dir : ℕ) → no_verdict ≡ verdict_of u item dir) → (news : List Change) → AreFresh u news → AllSaySome news
+fresh-some u silent [] h = tt
+fresh-some u silent (first ∷ news) h = (ap (are_same first.verdict) (silent first.item first.dir) ∙ h.0, fresh-some u silent news h.1)
 
 -- nothing is said of what is no item
 pub news-of-none : (s : State) (item : ℕ) (news : List Change) → IsValid s → news ≡ [] → is_item s item ≡ false → AreAllNews s item news
 news-of-none s item news valid none out = record {
   own = ap (list_all (is_on item)) none;
+  some = subst AllSaySome (sym none) tt;
   told = λ dir. ap (λ (changes : List Change). told changes (λ _. no_verdict) dir) none ∙ sym (no-item s valid item dir out);
 }
 
@@ -38,22 +49,32 @@ news-of-none s item news valid none out = record {
 pub news-of-unjudged : (s : State) (item : ℕ) (news : List Change) → IsValid s → news ≡ [] → LendsNothing s → is_judged s item ≡ false → AreAllNews s item news
 news-of-unjudged s item news valid none unlent out = record {
   own = ap (list_all (is_on item)) none;
+  some = subst AllSaySome (sym none) tt;
   told = λ dir. ap (λ (changes : List Change). told changes (λ _. no_verdict) dir) none
       ∙ sym (links-judged s valid item dir ∙ unjudged-said s (is_linked (verdict_of s item)) item dir out (unlent dir));
 }
 
 -- an item that is settled from a state that says nothing
-pub settled-news : (s t u : State) (stops : List Stop) (item : ℕ) (result : Result (Vec Change Global) Memory) → t ≡ s → ((dir : ℕ) → no_verdict ≡ verdict_of u item dir) →
+pub settled-news : (s t u : State) (stops : List Stop) (item : ℕ) (result : Result (Vec Change Global) Memory) → t ≡ s → ((n dir : ℕ) → no_verdict ≡ verdict_of u n dir) →
     IfOk result (λ news. list_all (is_on item) news.items ≡ true) →
     (Covers u t stops item → IfOk result (λ news. (dir : ℕ) → told news.items (verdict_of u item) dir ≡ verdict_of t item dir)) →
+    (Covers u t stops item → IfOk result (λ news. AreFresh u news.items)) →
     Covers u s stops item → IfOk result (λ news. AreAllNews s item news.items)
-settled-news s t u stops item (Ok news) same none own settled covers = record {
+settled-news s t u stops item (Ok news) same none own settled fresh covers = record {
   own = own;
-  told = λ dir. ap (latest news.items dir) (none dir)
+  some = fresh-some u none news.items (fresh (subst (λ (x : State). Covers u x stops item) (sym same) covers));
+  told = λ dir. ap (latest news.items dir) (none item dir)
       ∙ settled (subst (λ (x : State). Covers u x stops item) (sym same) covers) dir
       ∙ ap (λ (x : State). verdict_of x item dir) same;
 }
-settled-news s t u stops item (Err memory) same none own settled covers = tt
+settled-news s t u stops item (Err memory) same none own settled fresh covers = tt
+
+-- only semantic directories get sets for it
+pub asked-more : (s : State) (item : ℕ) (old room new : Known) (news : List Change) → IsValid s → AreAllNews s item news → AreSetsFor old room news → SameLinks room new → AreSetsAsked s old → AreSetsAsked s new
+asked-more s item old room new news valid all sets same asked dir is =
+    sets-pass (is_semantic s) old room news
+    (some-pass (is_semantic s) news all.some (λ dir plain. all.told dir ∙ plain-said s valid item dir plain))
+    sets asked dir (sym (same dir) ∙ is)
 
 -- Item by item.
 

@@ -100,6 +100,10 @@ settled-more s t stops files file old new apart covers more h = record {
     | inl same ↦ out (among-right files (file ∷ []) item (inl same))
     | inr never ↦ never
   ]) ∙ h.others item (λ before. out (among-left files (file ∷ []) item before));
+  fresh = more.fresh (λ item inside. elim inside as (λ _. Covers s t stops item) [
+    | inl same ↦ subst (λ (n : ℕ). Covers s t stops n) same covers
+    | inr never ↦ absurd never
+  ]) h.fresh;
 }
   where
     other : (item : ℕ) → Among files item → ¬ Among (file ∷ []) item

@@ -69,7 +69,7 @@ only-moved s event ok never entry dir name is item =
 -- What is removed is no item.
 
 rm-gone : (s : State) (entry item : ℕ) → touches s (Rm entry) item ≡ true → is_item (apply s (Rm entry)) item ≡ false
-rm-gone s entry item is = ap (is_item (apply s (Rm entry))) (eqb-true item entry is)
+rm-gone s entry item is = ap (is_item (apply s (Rm entry))) (eqb-true item entry (and_parts (item == entry) (is_item s item) is).0)
     ∙ ap (λ (o : Option Entry). option_map_or is_linkable (option_map (λ (e : Entry). e.body) o) false) (entry_at-mapped (forgetting entry) (removed s entry).entries entry ∙ ap (option_map (edited (forgetting entry))) none)
   where
     none : entry_at (removed s entry).entries entry ≡ None

@@ -23,8 +23,8 @@ use Rattle.hac_model.proofs.ChangeLemmas.{changed-low}
 use Rattle.hac_model.proofs.TreeLemmas.{entry_at-number}
 use Rattle.reindex.proofs.LeftLemmas.{Leaves, added-left, below-left, depends-left, entry_at-left, item-left, lenders-left, parent-left, path_of-left, permanent-left, prohibited-left, query-left, seen-left, semantic-left}
 use Rattle.reindex.specs.Steps.{indexed_if, indexed_through, indexed_to}
-use Rattle.hac_model.proofs.ValidLemmas.{indexed-document, indexed-linkable}
 use Rattle.reeval.proofs.OweLemmas.{indexed-query}
+use Rattle.hac_model.proofs.KindLemmas.{role-indexed, keeps-document, keeps-item}
 
 -- What indexing leaves.
 
@@ -54,7 +54,7 @@ kept-answers other = refl
 
 leaves : (last : ℕ) → Leaves (indexed_body last)
 leaves last = record {
-  linkable = of_body is_linkable indexed-linkable last;
+  linkable = of_body is_linkable (keeps-item indexed role-indexed) last;
   directory = of_body is_directory kept-directory last;
   query = of_body query_in indexed-query last;
   permanent = of_body permanent_in kept-permanent last;
@@ -75,7 +75,7 @@ module _ (last : ℕ) (s : State) where
   item-indexed = item-left (indexed_body last) (leaves last) s
 
   pub document-indexed : (n : ℕ) → is_document_at t.entries n ≡ is_document_at s.entries n
-  document-indexed n = seen-left (indexed_body last) (λ o. option_map_or is_document (option_map (λ (e : Entry). e.body) o) false) s.entries n (of_body is_document indexed-document last)
+  document-indexed n = seen-left (indexed_body last) (λ o. option_map_or is_document (option_map (λ (e : Entry). e.body) o) false) s.entries n (of_body is_document (keeps-document indexed role-indexed) last)
 
   pub parent-indexed : (n : ℕ) → parent_of t n ≡ parent_of s n
   parent-indexed = parent-left (indexed_body last) (leaves last) s

@@ -14,6 +14,7 @@ use Rattle.hac_model.specs.declared.states.Entry.{Entry}
 use Rattle.hac_model.specs.declared.states.State.{State}
 use Rattle.query_index.specs.Asking.{asks_for_change, may_hold}
 use Rattle.reeval.specs.Judging.{verdict_of}
+use Rattle.reeval.specs.Settled.{AreFresh}
 use Rattle.reeval.specs.Told.{news_on, told}
 use Rattle.reeval.specs.declared.verdicts.Change.{Change}
 
@@ -38,10 +39,11 @@ may_differ (Some old) new query = asks_for_change (rising_words old) (rising_wor
 abbrev pub may_begin : State → Option (List ℕ) → List ℕ → ℕ → Bool
 may_begin s old new dir = option_map_or (may_differ old new) (query_at s dir) false
 
--- by these changes the items have the verdicts of the second state, and nothing is new of any other
+-- by these changes the items have the verdicts of the second state, and nothing is new of any other; each says something new
 pub record AreSettled (s t : State) (items : List ℕ) (delta : List Change) : Type 0 where
   pub settled : (item : ℕ) → Among items item → (dir : ℕ) → told (news_on item delta) (verdict_of s item) dir ≡ verdict_of t item dir
   pub others : (item : ℕ) → ¬ Among items item → news_on item delta ≡ []
+  pub fresh : AreFresh s delta
 
 -- so many steps index these files, each once and as many as steps, and no other dirty file whose number isn't above the last of theirs
 pub record AreIndexed (s : State) (count : ℕ) (files : List ℕ) (last : ℕ) : Type 0 where

@@ -4,7 +4,7 @@ ghost use Rattle.hac_model.specs.Tree.Costs.{opening, weight};
 ghost use Rattle.hac_model.specs.Tree.Links.{has, is_item, shown_of, transient_at};
 ghost use Rattle.reeval.specs.Probes.{terms_along};
 ghost use Rattle.reeval.specs.Routes.{Covers};
-ghost use Rattle.reeval.specs.Settled.{AreLinksOf};
+ghost use Rattle.reeval.specs.Settled.{AreLinksOf, AreSetsAsked};
 ghost use Rattle.reindex.specs.Anew.{AreAllNews, AreLinksBelow, LendsNothing, unjudged_state};
 ghost use Rattle.reindex.specs.Ways.{IsWayOf};
 
@@ -31,6 +31,7 @@ pub fn links_of<L: Ledger>(
 ) -> Result<Links, Memory>
     requires { IsWayOf kept.now.state way.now }
     ensures links { IfOk result (AreLinksOf kept.now.state) }
+    ensures sets { IfOk result (AreSetsAsked kept.now.state) }
     ensures probes { probes.new ≤ probes.old + opening kept.now.state }
 {
     kept.know_valid();
@@ -54,6 +55,8 @@ fn add_links<L: Ledger>(
     requires { IsWayOf kept.now.state way.now }
     ensures links { AreLinksBelow kept.now.state found.old number →
         OnOk result (AreLinksBelow kept.now.state found.new (number + 1)) }
+    ensures sets { AreSetsAsked kept.now.state found.old →
+        OnOk result (AreSetsAsked kept.now.state found.new) }
     ensures probes { probes.new ≤ probes.old
         + (if is_item kept.now.state number then weight kept.now.state else 0) }
 {

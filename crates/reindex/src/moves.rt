@@ -9,6 +9,7 @@ ghost use Rattle.hac_model.specs.Tree.Valid.{IsValid};
 ghost use Rattle.hac_model.specs.declared.states.State.{State};
 ghost use Rattle.reeval.specs.Judging.{no_verdict, verdict_of};
 ghost use Rattle.reeval.specs.Routes.{dirs_of};
+ghost use Rattle.reeval.specs.Settled.{AreFresh};
 ghost use Rattle.reeval.specs.Told.{is_on, told};
 ghost use Rattle.reindex.specs.Moves.{OnlyMoves, crosses, place_tells};
 ghost use Rattle.reindex.specs.Steps.{AreSettled};
@@ -69,6 +70,7 @@ fn news_of_moved<Y: Layout, L: Ledger>(
     ensures own { IfOk result (λ news. list_all (is_on item) news.items ≡ true) }
     ensures news { IfOk result (λ news. (dir : ℕ) → told news.items (verdict_of past.now item) dir
         ≡ verdict_of (Y.state layout.now) item dir) }
+    ensures fresh { IfOk result (λ news. AreFresh past.now news.items) }
     ensures probes { probes.new ≤ probes.old + weight (Y.state layout.now) }
 {
     past.kept.know_valid();
@@ -145,6 +147,7 @@ fn news_of_gone(
     ensures own { IfOk result (λ news. list_all (is_on item) news.items ≡ true) }
     ensures none { IfOk result (λ news. (dir : ℕ)
         → told news.items (verdict_of past.now item) dir ≡ no_verdict) }
+    ensures fresh { IfOk result (λ news. AreFresh past.now news.items) }
 {
     past.kept.know_valid();
     let none = Verdict {

@@ -2,7 +2,7 @@
 use Rattle.std.proofs.Common.{◌≡◌, ℕ, Bool, true, false, cond, List, [], refl, ap, sym, ◌∙◌, eq-eqb}
 use Rattle.std.specs.Prelude.{◌==◌, ◌&&◌, not, Option, Some, None, is_some, option_and_then}
 use Rattle.std.specs.Option.{option_map, option_map_or}
-use Rattle.std.proofs.lemmas.Bool.{and_parts, eqb-false, eqb-true, ne_eqb}
+use Rattle.std.proofs.lemmas.Bool.{and_parts, eqb-false, eqb-true, ne_eqb, not-true}
 use Rattle.hac_model.specs.Query.Formula.{Formula}
 use Rattle.hac_model.specs.Tree.Changes.{asking, edited, indexed, plain_body, reseated, rewritten}
 use Rattle.hac_model.specs.Tree.Events.{is_made_holder, next_dirty}
@@ -19,7 +19,8 @@ use Rattle.hac_model.proofs.ChangeLemmas.{touched, touched-keeps}
 use Rattle.hac_model.proofs.TreeLemmas.{entry_at-number}
 use Rattle.scope_rules.specs.Fates.{SuitsTree, goes, is_indexed, left_parent, left_query, left_shown, new_body, new_parent}
 use Rattle.scope_rules.proofs.EntryLemmas.{IsNew, left_at, stayed}
-use Rattle.hac_model.proofs.ValidLemmas.{indexed-document, indexed-kind, indexed-linkable}
+use Rattle.hac_model.proofs.KindLemmas.{role-indexed, keeps-directory, keeps-document, keeps-item}
+use Rattle.hac_model.proofs.BoolLemmas.{and-false, and-true}
 
 -- Bodies that are edited.
 
@@ -128,27 +129,19 @@ tested-kept test e t n same = elim (goes e t n) as (λ b. tested test (cond b No
   | false ↦ at (entry_at t.entries n) ∙ sym (and-true (tested test (entry_at t.entries n)))
 ]
   where
-    and-false : (b : Bool) → (b && false) ≡ false
-    and-false true = refl
-    and-false false = refl
-
-    and-true : (b : Bool) → (b && true) ≡ b
-    and-true true = refl
-    and-true false = refl
-
     at : (o : Option Entry) → tested test (option_map (stayed e t.entries) o) ≡ tested test o
     at None = refl
     at (Some x) = same x
 
 module _ (e : Event) (t : State) (n : ℕ) (is : entry_at (bare_after e t).entries n ≡ left_at e t n) where
   pub item-left : is_item (bare_after e t) n ≡ (is_item t n && not (goes e t n))
-  item-left = ap (tested is_linkable) is ∙ tested-kept is_linkable e t n (stays is_linkable linkable-keeps indexed-linkable e t.entries)
+  item-left = ap (tested is_linkable) is ∙ tested-kept is_linkable e t n (stays is_linkable linkable-keeps (keeps-item indexed role-indexed) e t.entries)
 
   pub directory-left : is_made_directory (bare_after e t).entries n ≡ (is_made_directory t.entries n && not (goes e t n))
-  directory-left = ap (tested is_directory) is ∙ tested-kept is_directory e t n (stays is_directory directory-keeps indexed-kind e t.entries)
+  directory-left = ap (tested is_directory) is ∙ tested-kept is_directory e t n (stays is_directory directory-keeps (keeps-directory indexed role-indexed) e t.entries)
 
   pub document-left : is_document_at (bare_after e t).entries n ≡ (is_document_at t.entries n && not (goes e t n))
-  document-left = ap (tested is_document) is ∙ tested-kept is_document e t n (stays is_document document-keeps indexed-document e t.entries)
+  document-left = ap (tested is_document) is ∙ tested-kept is_document e t n (stays is_document document-keeps (keeps-document indexed role-indexed) e t.entries)
 
 module _ (e : Event) (t : State) (n : ℕ) (x : Entry) (is : IsNew e t n x) where
   new-tested : (test : Body → Bool) → tested test (entry_at (bare_after e t).entries n) ≡ option_map_or test (new_body e t.next n) false
@@ -270,10 +263,7 @@ module _ (t : State) (n : ℕ) where
   asking-asks : (query : Formula ℕ) (body : Body) → is_directory body ≡ true → is_mount body ≡ false → query_in (asking query body) ≡ Some query
   asking-asks query Dir made holds = refl
   asking-asks query (Semantic old permanent prohibited) made holds = refl
-  asking-asks query (File text dirty shown) made holds = absurd cc
-  asking-asks query (Symlink target) made holds = absurd cc
-  asking-asks query (Mount space answers) made holds = absurd cc
-  asking-asks query Document made holds = absurd cc
+  asking-asks query other made holds = absurd cc
 
   plain-asks : (body : Body) → query_in (plain_body body) ≡ None
   plain-asks (Semantic query permanent prohibited) = refl
@@ -326,10 +316,6 @@ module _ (t : State) (n : ℕ) where
       edited-asks dir (asking query) (Some query)
       (λ x there. asking-asks query x.body (sym (ap (tested is_directory) there) ∙ parts.0) (not-true (is_mount x.body) (sym (ap (λ (o : Option Entry). not (tested is_mount o)) there) ∙ parts.1)))
       (λ none. let never : false ≡ true = sym (ap (tested is_directory) none) ∙ parts.0 in absurd cc)
-    where
-      not-true : (b : Bool) → not b ≡ true → b ≡ false
-      not-true true h = absurd cc
-      not-true false h = refl
 
   asks : (e : Event) → SuitsTree e t → asked (option_map (stayed e t.entries) (entry_at t.entries n)) ≡ left_query e t n
   asks (Setq dir query told) seated = holder-asks dir query seated

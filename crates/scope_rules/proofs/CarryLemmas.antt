@@ -14,7 +14,7 @@ use Rattle.hac_model.specs.declared.events.Event.{Event}
 use Rattle.hac_model.specs.declared.events.Event.TheVariants.{Setq, Mv, Ssync}
 use Rattle.hac_model.specs.declared.states.State.{State}
 use Rattle.hac_model.proofs.AcyclicLemmas.{apply-valid}
-use Rattle.hac_model.proofs.AlikeLemmas.{bare-kind, document-bare, layout-bare, layout-unbare, mount-bare, parent_of-bare, query_at-bare, shown-bare, some-bare}
+use Rattle.hac_model.proofs.AlikeLemmas.{document-bare, layout-bare, layout-unbare, mount-bare, parent_of-bare, query_at-bare, shown-bare, some-bare}
 use Rattle.hac_model.proofs.BareLemmas.{bare-commutes}
 use Rattle.hac_model.proofs.FillLemmas.{tree-law}
 use Rattle.hac_model.proofs.MapLemmas.{test-mapped}
@@ -22,9 +22,10 @@ use Rattle.hac_model.proofs.MountLayoutLemmas.{documents-parts}
 use Rattle.scope_rules.specs.After.{IsBefore}
 use Rattle.scope_rules.specs.Fates.{SuitsTree}
 use Rattle.scope_rules.proofs.ProvideLemmas.{item-bare}
+use Rattle.hac_model.proofs.KindLemmas.{role-bare, keeps-directory}
 
 made-bare : (s : State) (n : ℕ) → is_made_directory (bare s).entries n ≡ is_made_directory s.entries n
-made-bare s n = test-mapped is_directory bare_body s.entries n bare-kind
+made-bare s n = test-mapped is_directory bare_body s.entries n (keeps-directory bare_body role-bare)
 
 module _ (s t : State) (e : Event) (before : IsBefore s t e) where
   -- both are of one tree

@@ -8,7 +8,7 @@ use Rattle.hac_model.specs.Query.Words.{has_term, is_asked, words}
 use Rattle.hac_model.specs.declared.terms.Term.{Term}
 use Rattle.hac_words.proofs.RunLemmas.{list_any-map}
 use Rattle.sem_mounts.specs.WordLists.{IsListOf, Lists, is_listed}
-use Rattle.hac_model.proofs.ChangeLemmas.{or-turned}
+use Rattle.hac_model.proofs.BoolLemmas.{or-turned}
 
 -- ---- tests of tests
 

@@ -65,8 +65,7 @@ before letters word is =
   where
     back : (order : Ordering) → is_lt order ≡ true → is_le (ordering_reverse order) ≡ false
     back Less is = refl
-    back Equal is = absurd cc
-    back Greater is = absurd cc
+    back other is = absurd cc
 
 pub by_word : IsStrictWeakOrder (λ (list other : List ℕ × List ℕ).
     is_lt (slice_cmp nat_cmp list.0 other.0))

@@ -12,13 +12,6 @@ use Rattle.sem_mounts.specs.WordLists.{marked}
 
 -- ---- steps of loops, over what is left
 
--- one text more
-pub text_put : (has left old new : Bool) → new ≡ (has || old) →
-    (left || new) ≡ ((has || left) || old)
-text_put true true old new is = refl
-text_put true false old new is = is
-text_put false left old new is = ap (λ now. left || now) is
-
 -- ---- marks
 
 module _ (term : Term) where

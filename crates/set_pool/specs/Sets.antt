@@ -1,12 +1,13 @@
 -- What callers see of a pool, and how its calls change it.
-use Rattle.std.specs.Prelude.{◌≡◌, ℕ, ◌+◌, ◌≤◌, Bool, ◌&&◌, ◌||◌, not, ◌==◌, List, Option}
+use Rattle.std.specs.Prelude.{◌≡◌, ℕ, ◌+◌, ◌≤◌, Bool, ◌&&◌, ◌||◌, not, ◌==◌, List, Option, length}
 use Rattle.set_pool.specs.Lists.{AllRise, ChangesAt, DropsAt, SameLists, is_live_at, list_at, members_at}
 use Rattle.set_pool.specs.Rising.{is_among}
 
--- the list of each live set at its name, how many calls may still make or grow a set without memory, and how many blocks
--- are set aside for them
+-- the list of each live set at its name, how many names are free, how many calls may still make or grow a set without
+-- memory, and how many blocks are set aside for them
 pub record Sets : Type 0 where
   pub lists : List (Option (List ℕ))
+  pub free : ℕ
   pub spare : ℕ
   pub aside : ℕ
 
@@ -29,6 +30,10 @@ is_in sets set number = is_among number (members_of sets set)
 -- each set's list rises
 abbrev pub AllListsRise : Sets → Type 0
 AllListsRise sets = AllRise sets.lists
+
+-- each name that came is free
+abbrev pub KeepsNames : Sets → Sets → Type 0
+KeepsNames old new = length new.lists + old.free ≡ length old.lists + new.free
 
 -- the set has that list, or isn't live, and each other set is as before
 abbrev pub Changes : Sets → Sets → ℕ → Option (List ℕ) → Type 0

@@ -4,7 +4,7 @@ ghost use Rattle.std.specs.Prelude.{◌≡◌, ◌+◌, ◌<◌, ◌≤◌, [], 
 ghost use Rattle.std.specs.Prelude.{OnErr, OnOk, Some, false, vec_len};
 ghost use Rattle.set_pool.specs.Rising.{first_from, inserted, is_among, removed};
 ghost use Rattle.set_pool.specs.Sets.{AllListsRise, BeginsSet, Changes, Clears, Drops, EndsSet};
-ghost use Rattle.set_pool.specs.Sets.{Joins, Leaves, SameLive, SameMembers, SameSets, SpendsNone};
+ghost use Rattle.set_pool.specs.Sets.{Joins, KeepsNames, Leaves, SameLive, SameMembers, SameSets, SpendsNone};
 ghost use Rattle.set_pool.specs.Sets.{SpendsOne, is_in, is_live, members_of};
 
 use crate::rows::Row;
@@ -50,7 +50,7 @@ impl Model for SetPool {
     ghost use Rattle.set_pool.specs.Pool.{IsBacked};
 
     ghost view = { λ pool.
-        record { lists = pool.slots.lists; spare = pool.spare; aside = vec_len pool.blocks } };
+        record { lists = pool.slots.lists; free = pool.slots.free; spare = pool.spare; aside = vec_len pool.blocks } };
 
     ghost invariant = { λ pool. IsBacked pool.slots (vec_len pool.blocks) pool.spare pool.granted };
 }
@@ -58,7 +58,7 @@ impl Model for SetPool {
 impl SetPool {
     /// A pool without sets, in which nothing is spare or set aside.
     pub fn new(alloc: Global) -> SetPool
-        ensures { result ≡ record { lists = []; spare = 0; aside = 0 } }
+        ensures { result ≡ record { lists = []; free = 0; spare = 0; aside = 0 } }
     {
         SetPool {
             alloc,
@@ -70,11 +70,12 @@ impl SetPool {
     }
 
     /// Sets aside what `count` calls of `make` and `insert` may need. What is left of earlier calls
-    /// counts.
+    /// counts, and so does each name that is free.
     pub fn reserve(&mut self, count: u64) -> Result<(), AllocError>
         ensures room { OnOk result (self.new.spare ≡ max self.old.spare count) }
         ensures aside { self.new.aside ≤ max self.old.aside count }
-        ensures names { length self.new.lists ≤ length self.old.lists + count }
+        ensures few { self.new.free ≤ max self.old.free count }
+        ensures names { KeepsNames self.old self.new }
         ensures same { SameSets self.old self.new }
 
         // If memory ran out, no more calls are spare. Names and blocks that were taken stay.
@@ -108,6 +109,7 @@ impl SetPool {
         ensures members { SameMembers self.old self.new }
         ensures live { BeginsSet self.old self.new result }
         ensures spare { SpendsOne self.old self.new }
+        ensures free { self.new.free + 1 ≡ self.old.free }
         ensures rise { AllListsRise self.new }
     {
         self.spare -= 1;
@@ -124,6 +126,7 @@ impl SetPool {
         ensures members { Joins self.old self.new set value }
         ensures live { SameLive self.old self.new }
         ensures spare { SpendsOne self.old self.new }
+        ensures free { self.new.free ≡ self.old.free }
         ensures rise { AllListsRise self.new }
     {
         self.spare -= 1;
@@ -139,6 +142,7 @@ impl SetPool {
         ensures members { Leaves self.old self.new set value }
         ensures live { SameLive self.old self.new }
         ensures spare { SpendsNone self.old self.new }
+        ensures free { self.new.free ≡ self.old.free }
         ensures rise { AllListsRise self.new }
     {
         self.slots.remove(set.0 as usize, value)
@@ -149,6 +153,7 @@ impl SetPool {
         ensures lists { Drops self.old self.new value }
         ensures live { SameLive self.old self.new }
         ensures spare { SpendsNone self.old self.new }
+        ensures free { self.new.free ≡ self.old.free }
         ensures rise { AllListsRise self.new }
     {
         self.slots.remove_everywhere(value);
@@ -188,6 +193,7 @@ impl SetPool {
         ensures members { Clears self.old self.new set }
         ensures live { EndsSet self.old self.new set }
         ensures spare { SpendsNone self.old self.new }
+        ensures free { self.new.free ≡ self.old.free + 1 }
         ensures rise { AllListsRise self.new }
     {
         self.slots.free(set.0 as usize);

@@ -1,8 +1,8 @@
 //! The names of sets, and the numbers of each that is live. A name is the place of its slot; those
 //! that are free stand on a stack within the slots, so that a name that was freed is used again. It
 //! knows nothing of what is reserved.
-ghost use Rattle.std.specs.Prelude.{◌≡◌, ◌+◌, ◌<◌, ◌≤◌, [], length, not, false, IsTrue, OnErr};
-ghost use Rattle.std.specs.Prelude.{OnOk, vec_len};
+ghost use Rattle.std.specs.Prelude.{◌≡◌, ◌+◌, ◌<◌, ◌≤◌, [], length, max, not, false, IsTrue};
+ghost use Rattle.std.specs.Prelude.{OnErr, OnOk, vec_len};
 ghost use Rattle.set_pool.specs.Rising.{Rises, inserted, is_among, removed};
 ghost use Rattle.set_pool.specs.Lists.{AllRise, ChangesAt, DropsAt, SameLists, is_live_at};
 ghost use Rattle.set_pool.specs.Lists.{members_at};
@@ -56,7 +56,8 @@ impl Slots {
     pub fn reserve(&mut self, count: usize) -> Result<(), AllocError>
         ensures room { OnOk result (count ≤ self.new.free) }
         ensures free { self.old.free ≤ self.new.free }
-        ensures names { length self.new.lists ≤ length self.old.lists + count }
+        ensures few { self.new.free ≤ max self.old.free count }
+        ensures names { length self.new.lists + self.old.free ≡ length self.old.lists + self.new.free }
         ensures same { SameLists self.old.lists self.new.lists }
     {
         let more = count.saturating_sub(self.free);

@@ -7,7 +7,7 @@ use Rattle.std.specs.List.{before_first, list_all, position_or_len, prefix_len}
 use Rattle.std.specs.Str.{bytes_eq}
 use Rattle.std.specs.Str.Parse.{AllDigits, digits_value}
 use Rattle.std.proofs.Math.Seq.{drop-append_seam, take-append_seam}
-use Rattle.std.proofs.lemmas.Bool.{and_from, and_parts}
+use Rattle.std.proofs.lemmas.Bool.{and_from, and_parts, not-true}
 use Rattle.std.proofs.lemmas.Bool.Decides.{nat_tests}
 use Rattle.std.proofs.lemmas.Fmt.{decimal_is_IsNumeral, first_decimal, length-decimal-le}
 use Rattle.std.proofs.lemmas.Str.Parse.{digit_from_value}
@@ -33,6 +33,7 @@ use Rattle.hac_model.specs.declared.replies.Refusal.{Refusal}
 use Rattle.hac_model.specs.declared.replies.Refusal.TheVariants.{BadLine, BadName, Limit}
 use Rattle.hac_model.proofs.QuoteLemmas.{word-read}
 use Rattle.shell_lang.proofs.PathLemmas.{TargetParts, WordParts, all-weaker, is_inner, is_one_line, word_text-read}
+use Rattle.hac_model.proofs.BoolLemmas.{or-true}
 
 -- Words.
 
@@ -240,15 +241,11 @@ space-skipped bytes =
     let one : 1 + prefix_len is_space bytes ≡ suc (prefix_len is_space bytes) = omega arith in
     ap (λ (n : ℕ). word_at (drop n (32 ∷ bytes))) one
 
-turned : (t : Bool) → not t ≡ true → t ≡ false
-turned true e = absurd cc
-turned false e = refl
-
 digits-first : (ds : List ℕ) → 0 < length ds → list_all is_ascii_digit ds ≡ true → first_word (32 ∷ ds) ≡ Ok (ds, [])
 digits-first [] some all = absurd (omega (arith, some))
 digits-first (c ∷ ds) some all =
     let both = and_parts (is_ascii_digit c) (list_all is_ascii_digit ds) all in
-    let dull : is_space c ≡ false = turned (is_space c) (digit-plain c both.0) in
+    let dull : is_space c ≡ false = not-true (is_space c) (digit-plain c both.0) in
     space-skipped (c ∷ ds)
     ∙ ap (λ (bytes : List ℕ). first_word (c ∷ bytes)) (sym (append-nil ds))
     ∙ plain-read c ds [] dull (digit-quote c both.0) (all-weaker is_ascii_digit is_unspaced digit-plain ds both.1) refl
@@ -262,11 +259,7 @@ nonzero-number ds some few all first =
     and_from (nat_le 1 (length ds) && nat_le (length ds) 10 && list_all is_ascii_digit ds) (not (slice_index ds 0 == 48))
     (and_from (nat_le 1 (length ds) && nat_le (length ds) 10) (list_all is_ascii_digit ds) (and_from (nat_le 1 (length ds)) (nat_le (length ds) 10) least most) all)
     (ap not other) in
-    ap (λ (t : Bool). bytes_eq ds (codes "0") || t) four ∙ or_right (bytes_eq ds (codes "0"))
-  where
-    or_right : (t : Bool) → (t || true) ≡ true
-    or_right true = refl
-    or_right false = refl
+    ap (λ (t : Bool). bytes_eq ds (codes "0") || t) four ∙ or-true (bytes_eq ds (codes "0"))
 
 -- a number is printed as one
 decimal-number : (n : ℕ) → n < 10000000000 → is_number (decimal n) ≡ true

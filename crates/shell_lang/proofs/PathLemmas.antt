@@ -2,7 +2,7 @@
 use Rattle.std.proofs.Common.{◌≡◌, ℕ, zero, suc, ◌+◌, ◌-◌, true, false, Bool, cond, eqb, List, [], ◌∷◌, ◌++◌, length, refl, ap, sym, ◌∙◌, arith, codes, Ok, Err}
 use Rattle.std.specs.Prelude.{not, nat_le, replicate, slice_index, Result, ◌&&◌, ◌||◌, if◌then◌else◌}
 use Rattle.std.specs.List.{list_all, list_any, flat_map, onto_first, position_or_len}
-use Rattle.std.proofs.lemmas.Bool.{and_parts, and_from, or_from, not_from_true, cond-false}
+use Rattle.std.proofs.lemmas.Bool.{and_from, and_parts, cond-false, not-true, not_from_true, or_from}
 use Rattle.std.proofs.lemmas.List.{append-nil}
 use Rattle.std.proofs.lemmas.List.Folds.{list_all-append}
 use Rattle.std.proofs.lemmas.List.Splits.{slice_split_none, slice_split_at}
@@ -26,15 +26,6 @@ use Rattle.hac_names.proofs.Walks.{relative-absolute}
 pub record WordParts (word : PathWord) : Type 0 where
   pub names : are_names word.names ≡ true
   pub ups : word.absolute ≡ true → word.ups ≡ 0
-
-before-own : (idle up none : Bool) (part : List ℕ) (word : PathWord) → word.absolute ≡ false
-    → (cond idle word (cond up (record word { ups = word.ups + 1 })
-    (cond none (record word { names = part ∷ word.names })
-    (record word { ups = word.ups - 1 })))).absolute ≡ false
-before-own true up none part word own = own
-before-own false true none part word own = own
-before-own false false true part word own = own
-before-own false false false part word own = own
 
 rooted-ups : (slash : Bool) (word : PathWord) → word.absolute ≡ false → (cond slash (at_root word) word).absolute ≡ true → (cond slash (at_root word) word).ups ≡ 0
 rooted-ups true word own is = refl
@@ -207,18 +198,14 @@ unfolding word_of
 target-parts target h =
     let both = and_parts (nat_le (length target) TARGET_LIMIT) (is_path_word target) h in
     let word = and_parts (not (is_bad target)) (not (has_long_part target)) both.1 in
-    let good : is_bad target ≡ false = turned (is_bad target) word.0 in
-    let short : has_long_part target ≡ false = turned (has_long_part target) word.1 in
+    let good : is_bad target ≡ false = not-true (is_bad target) word.0 in
+    let short : has_long_part target ≡ false = not-true (has_long_part target) word.1 in
     record {
       few = both.0;
       read = cond-false (is_bad target) _ _ good ∙ cond-false (has_long_part target) _ _ short;
       one_line = quoted_part-one_line target (parts-one_line target (or_none (eqb (length target) 0) (list_all is_part (parts target)) good));
     }
   where
-    turned : (t : Bool) → not t ≡ true → t ≡ false
-    turned true e = absurd cc
-    turned false e = refl
-
     or_none : (one other : Bool) → (one || not other) ≡ false → other ≡ true
     or_none true other e = absurd cc
     or_none false true e = refl

@@ -15,13 +15,15 @@ use Rattle.hac_model.specs.declared.states.Body.{Body}
 use Rattle.hac_model.specs.declared.states.Body.TheVariants.{File, Dir, Symlink, Semantic, Mount, Document}
 use Rattle.hac_model.specs.declared.states.Entry.{Entry}
 use Rattle.hac_model.specs.declared.states.State.{State}
-use Rattle.hac_model.proofs.AlikeLemmas.{bare-dirty, bare-document, entry_at-bare, text_at-bare}
+use Rattle.hac_model.proofs.AlikeLemmas.{bare-dirty, entry_at-bare, text_at-bare}
 use Rattle.hac_model.proofs.TreeLemmas.{entry_at-number}
-use Rattle.file_tree.specs.Answers.{entry_kind, entry_kind_at, is_dirty_at}
-use Rattle.file_tree.specs.declared.tree.EntryKind.{EntryKind}
-use Rattle.file_tree.specs.declared.tree.EntryKind.TheVariants as kind
+use Rattle.file_tree.specs.Answers.{is_dirty_at}
+use Rattle.hac_model.specs.Tree.{entry_kind, entry_kind_at}
+use Rattle.hac_model.specs.declared.states.EntryKind.{EntryKind}
+use Rattle.hac_model.specs.declared.states.EntryKind.TheVariants as kind
 use Rattle.kept_state.proofs.StateLemmas.{alike}
 use Rattle.snapshots.specs.Taking.{documents_of}
+use Rattle.hac_model.proofs.KindLemmas.{kind-bare, role-bare, keeps-document}
 
 -- ---- a body by its parts
 
@@ -175,11 +177,6 @@ name-bare s n =
     one None = refl
     one (Some e) = refl
 
-kind-bare : (body : Body) → entry_kind (bare_body body) ≡ entry_kind body
-kind-bare (Semantic query permanent prohibited) = refl
-kind-bare (Mount space answers) = refl
-kind-bare other = refl
-
 space-bare : (body : Body) → space_in (bare_body body) ≡ space_in body
 space-bare (Semantic query permanent prohibited) = refl
 space-bare (Mount space answers) = refl
@@ -225,7 +222,7 @@ documents-bare s dir =
     (ap in_order (filter-bare (λ e. e.parent == dir) (λ e. refl) s.entries)
     ∙ order-bare (filter (λ e. e.parent == dir) s.entries))
     ∙ ap (λ (es : List Entry). map listed_document es)
-    (filter-bare (λ child. is_document child.body) (λ e. bare-document e.body) (children s dir))
+    (filter-bare (λ child. is_document child.body) (λ e. keeps-document bare_body role-bare e.body) (children s dir))
     ∙ listed-bare (filter (λ child. is_document child.body) (children s dir))
 
 module _ (s t : State) (bares : bare s ≡ bare t) where

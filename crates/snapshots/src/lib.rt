@@ -8,7 +8,5 @@ mod reading;
 mod restoring;
 mod taking;
 
-pub use loading::load;
 pub use reading::{LoadFault, read};
-pub use restoring::restored;
 pub use taking::snapshot;

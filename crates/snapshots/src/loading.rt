@@ -37,7 +37,7 @@ pub(crate) struct Beside {
 
 /// The state as a machine keeps it, for one that is valid and has no sessions. It wants memory for
 /// what is kept, and moves the texts.
-pub fn load(alloc: Global, state: State) -> Result<KeptState, Memory>
+pub(crate) fn load(alloc: Global, state: State) -> Result<KeptState, Memory>
     requires valid { IsValid state }
     requires sessions { state.sessions ≡ [] }
     ensures { IfOk result (λ kept. kept ≡ record { state = state; ready = [] }) }

@@ -7,7 +7,7 @@ use std::alloc::Global;
 
 /// The state that a snapshot tells, which may be one that can't be. The texts are moved, not
 /// copied.
-pub fn restored(alloc: Global, snapshot: Snapshot) -> Result<State, Memory>
+pub(crate) fn restored(alloc: Global, snapshot: Snapshot) -> Result<State, Memory>
     ensures { IfOk result (λ state. state ≡ restored snapshot) }
 {
     let Snapshot {

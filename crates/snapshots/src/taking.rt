@@ -9,9 +9,10 @@ ghost use Rattle.set_pool.specs.Rising.{first_from};
 ghost use Rattle.snapshots.specs.Taking.{document_at, documents_of, marked_at, stored_at};
 
 use crate::loading::copies;
-use file_tree::{EntryKind, Tree};
+use file_tree::Tree;
 use hac_model::{
-    Body, Document, Entry, Kind, Memory, Node, Number, Query, Seq, Snapshot, StoredEntry, Text,
+    Body, Document, Entry, EntryKind, Kind, Memory, Node, Number, Query, Seq, Snapshot,
+    StoredEntry, Text,
 };
 use kept_state::KeptState;
 use std::alloc::Global;

@@ -21,17 +21,6 @@ edges_left s left q = if is_some (entry_at left q) then [] else depends s q
 
 -- ---- at first
 
-pub left-all : (s : State) (q : ℕ) → [] ≡ edges_left s s.entries q
-left-all s q = of (entry_at s.entries q)
-  where
-    of : (o : Option Entry) → [] ≡ (if is_some o then []
-        else option_map_or (λ query. option_map_or (λ (e : Entry). e.parent)
-        (entry_at s.entries q) 0 ∷ named_in query ++ filter (is_directory_at s.entries)
-        (option_map_or permanent_in (option_map (λ (e : Entry). e.body) (entry_at s.entries q)) []))
-        (option_and_then query_in (option_map (λ (e : Entry). e.body) o)) [])
-    of None = refl
-    of (Some e) = refl
-
 -- ---- an entry that stands where some are left
 
 all-left : (P : Entry → Type 0) (es : List Entry) (i : ℕ) (e : Entry) (left : List Entry) → AllByRecursion P es

@@ -2,7 +2,7 @@
 //! is the tail. Where a number comes in or goes out, each run behind it passes one on to the next:
 //! a long list costs as many steps as it has runs, and one that is no longer than a run has none.
 ghost use Rattle.std.specs.Prelude.{◌≡◌, ◌+◌, ◌<◌, ◌≤◌, ◌++◌, ◌⊎◌, [], OnOk};
-ghost use Rattle.std.specs.Prelude.{insert, length, remove};
+ghost use Rattle.std.specs.Prelude.{insert, length, max, remove};
 ghost use Rattle.std.specs.List.{concat};
 ghost use Rattle.tiered_list.specs.Runs.{AreFew, AreFull};
 
@@ -74,6 +74,7 @@ impl TieredList {
     pub fn reserve(&mut self) -> Result<(), Memory>
         ensures items { self.new.items ≡ self.old.items }
         ensures place { OnOk result (0 < self.new.spare) }
+        ensures most { self.new.spare ≤ max self.old.spare 1 }
     {
         close_full(self.alloc, &mut self.runs, &mut self.tail)?;
         self.tail.reserve()
@@ -119,6 +120,8 @@ fn close_full(alloc: Global, runs: &mut Vec<Run>, tail: &mut Tail) -> Result<(),
         ≡ concat runs.old.items ++ tail.old.items }
     ensures full { AreFull runs.new.items }
     ensures few { AreFew runs.new.items }
+    ensures short { OnOk result (length tail.old.items ≤ RUN → length tail.new.items < RUN) }
+    ensures spare { tail.new.spare ≤ tail.old.spare }
 {
     if tail.len() != RUN {
         return Ok(());

@@ -1,5 +1,5 @@
 //! The end of a list, which is no full run yet. It keeps places for more.
-ghost use Rattle.std.specs.Prelude.{◌≡◌, ◌+◌, ◌<◌, ◌≤◌, [], insert, length, remove, OnOk};
+ghost use Rattle.std.specs.Prelude.{◌≡◌, ◌+◌, ◌<◌, ◌≤◌, [], insert, length, max, remove, OnOk};
 
 use hac_model::{Memory, Number};
 use std::alloc::Global;
@@ -68,6 +68,7 @@ impl Tail {
     pub(crate) fn reserve(&mut self) -> Result<(), Memory>
         ensures items { self.new.items ≡ self.old.items }
         ensures place { OnOk result (0 < self.new.spare) }
+        ensures most { self.new.spare ≤ max self.old.spare 1 }
     {
         if self.count == self.numbers.len() {
             self.numbers.push(Number::ROOT)?;

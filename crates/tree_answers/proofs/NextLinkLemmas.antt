@@ -18,6 +18,7 @@ use Rattle.tree_answers.specs.NextLinks.{lesser, next_linked}
 use Rattle.tree_answers.proofs.CountsLemmas.{are-marks, item-below, markable-below}
 use Rattle.tree_answers.proofs.RangeLemmas.{flat_next}
 use Rattle.hac_model.proofs.RangeLemmas.{range-rises}
+use Rattle.hac_model.proofs.BoolLemmas.{or-true}
 
 -- the number comes before another, if there is one
 abbrev IsBefore : ℕ → Option ℕ → Type 0
@@ -42,10 +43,6 @@ first-there : (from : ℕ) (ns : List ℕ) (a : ℕ) → first_from from ns ≡ 
 first-there from [] a is = absurd cc
 first-there from (n ∷ ns) a is = by_test (nat_le from n) refl is (first-there from ns a)
   where
-    or-true : (b : Bool) → (b || true) ≡ true
-    or-true true = refl
-    or-true false = refl
-
     by_test : (b : Bool) → nat_le from n ≡ b → cond b (Some n) (first_from from ns) ≡ Some a → (first_from from ns ≡ Some a → (from ≤ a) × (has ns a ≡ true)) → (from ≤ a) × (has (n ∷ ns) a ≡ true)
     by_test true least is rest =
         let same : n ≡ a = cc in

@@ -31,13 +31,12 @@ use Rattle.hac_model.proofs.ChangeLemmas.{all-filter, all-joined, all-weaker, fi
 use Rattle.hac_model.proofs.FittingLemmas.{IsFitting, layout-fits}
 use Rattle.hac_model.proofs.FoundLemmas.{names-rise}
 use Rattle.hac_model.proofs.LimitLemmas.{limits-within, most-numbers}
-use Rattle.hac_model.proofs.MountLayoutLemmas.{all-tested, cleared-fits, cleared-mount, fresh-free, gone-stays, keeping-places, numbers-documents, rise-filter, with_documents-fits}
-use Rattle.hac_model.proofs.SuchLemmas.{such-document}
+use Rattle.hac_model.proofs.MountLayoutLemmas.{all-tested, cleared-fits, cleared-mount, fresh-free, gone-stays, numbers-documents, rise-filter, with_documents-fits}
 use Rattle.hac_model.proofs.TreeLemmas.{child-entry, entry_at-above, entry_at-all, entry_at-behind, entry_at-first, place-directory, same_place}
 use Rattle.hac_model.proofs.ValidLemmas.{directory-below}
 use Rattle.tree_answers.specs.Numbering.{document_with, listed_with, numbered_by, numbers_of, put_found, put_number}
 use Rattle.hac_model.proofs.NameOrderLemmas.{same-turned}
-use Rattle.hac_model.proofs.AlikeLemmas.{bare-document}
+use Rattle.hac_model.proofs.KindLemmas.{role-bare, role-keeping, role-such, keeps-document}
 
 -- A number among numbers that rise.
 
@@ -497,7 +496,7 @@ pub synced-numbered : (s : State) (m : ℕ) (list names : List (List ℕ)) → I
 synced-numbered s m list names h there rise =
     let fits = redocumented-fits s m list h there rise in
     numbered-named 0 (redocumented s m list).entries (redocumented s m list).next m (listed_with list (numbers_of s.entries m s.next list)) fits.numbers fits.differ finds names
-    ∙ sym (named-changed m (keeping []) (redocumented s m list).entries m names (keeping-places []).documents)
+    ∙ sym (named-changed m (keeping []) (redocumented s m list).entries m names (keeps-document (keeping []) (role-keeping [])))
   where
     forgets : Body → Body
     forgets = forgetting_such (is_such_at (is_gone m list) s.entries)
@@ -513,7 +512,7 @@ synced-numbered s m list names h there rise =
         sym (listed-numbers s.entries m s.next list x)
         ∙ ap (λ (o : Option ℕ). first_found (cond (is_among list x) o None) (rank_from s.next (fresh s m list) x)) (sym (document-mount s m x h there))
         ∙ sym (document-joined (map (edited forgets) left) come m x
-        ∙ (λ i. first_found ((document-mapped forgets left m x (such-document (is_such_at (is_gone m list) s.entries)) ∙ document-left s.entries m list x) i) (document-come s.next m (fresh s m list) x i)))
+        ∙ (λ i. first_found ((document-mapped forgets left m x (keeps-document (forgetting_such (is_such_at (is_gone m list) s.entries)) (role-such (is_such_at (is_gone m list) s.entries))) ∙ document-left s.entries m list x) i) (document-come s.next m (fresh s m list) x i)))
 
 -- The bare tree is asked as well.
 
@@ -527,7 +526,7 @@ named-bare s mount names = each s.entries
     each [] = refl
     each (e ∷ es) =
         number-first (passes e) e (filter passes es)
-        ∙ (λ i. cond (sym (bare-document e.body) i && (e.parent == mount && is_among names e.name)) (e.number ∷ each es i) (each es i))
+        ∙ (λ i. cond (sym (keeps-document bare_body role-bare e.body) i && (e.parent == mount && is_among names e.name)) (e.number ∷ each es i) (each es i))
         ∙ sym (number-first (passes (edited bare_body e)) (edited bare_body e) (filter passes (map (edited bare_body) es)))
 
 -- where the trees are the same, so are the numbers

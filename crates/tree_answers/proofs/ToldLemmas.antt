@@ -25,10 +25,7 @@ use Rattle.hac_model.proofs.TreeLemmas.{entry_at-all}
 use Rattle.tree_answers.specs.Asked.{atom_told, first_tells, questions, questions_to, was_told}
 use Rattle.tree_answers.specs.declared.asking.Question.{Question}
 use Rattle.tree_answers.proofs.AtomLemmas.{atom-after, gain, untold}
-
-or-none : (a : Bool) → (a || false) ≡ a
-or-none true = refl
-or-none false = refl
+use Rattle.hac_model.proofs.BoolLemmas.{and-false, or-false, or-turned}
 
 -- An answer tells that an item has a term.
 
@@ -40,13 +37,8 @@ any-put p new [] = refl
 any-put p new (first ∷ answers) =
     elim (is_term_before new.term first.term) as (λ b. list_any p (if b then new ∷ first ∷ answers else first ∷ put_answer new answers) ≡ (p new || (p first || list_any p answers))) [
       | true ↦ refl
-      | false ↦ ap (λ (b : Bool). p first || b) (any-put p new answers) ∙ swap (p first) (p new) (list_any p answers)
+      | false ↦ ap (λ (b : Bool). p first || b) (any-put p new answers) ∙ or-turned (p first) (p new) (list_any p answers)
     ]
-  where
-    swap : (a b c : Bool) → (a || (b || c)) ≡ (b || (a || c))
-    swap true true c = refl
-    swap true false c = refl
-    swap false b c = refl
 
 any-with : (p : Answer → Bool) (more answers : List Answer) → list_any p (with_answers more answers) ≡ (list_any p more || list_any p answers)
 any-with p [] answers = refl
@@ -79,7 +71,7 @@ any-kept : (last : Option Term) (answers : List Answer) (term : Term) (item : �
 any-kept last [] term item h = refl
 any-kept last (first ∷ answers) term item h =
     elim (is_same_term first.term term) as (λ b. is_same_term first.term term ≡ b → has (unwrap_or (if b then Some first.documents else kept_for answers term) []) item ≡ ((b && has first.documents item) || list_any (answers_so term item) answers)) [
-      | true ↦ (λ same. sym (ap (λ (b : Bool). has first.documents item || b) (none-behind first.term answers term item (inr (sym (same-even first.term term same))) h.1) ∙ or-none (has first.documents item)))
+      | true ↦ (λ same. sym (ap (λ (b : Bool). has first.documents item || b) (none-behind first.term answers term item (inr (sym (same-even first.term term same))) h.1) ∙ or-false (has first.documents item)))
       | false ↦ (λ _. any-kept (Some first.term) answers term item h.1)
     ] refl
 
@@ -113,11 +105,7 @@ module _ (kept : ℕ → List Answer) (query : Formula ℕ) where
 
   told-split : (n : ℕ) (terms : List Term) (rest : List Question) (told : List (List ℕ)) (m : ℕ) (term : Term) (item : ℕ) →
       was_told (questions_to n terms ++ rest) told m term item ≡ (((n == m) && list_any (answers_so term item) (answers_to terms told)) || was_told rest (drop (length terms) told) m term item)
-  told-split n [] rest told m term item = ap (λ (b : Bool). b || was_told rest told m term item) (sym (and-none (n == m)))
-    where
-      and-none : (b : Bool) → (b && false) ≡ false
-      and-none true = refl
-      and-none false = refl
+  told-split n [] rest told m term item = ap (λ (b : Bool). b || was_told rest told m term item) (sym (and-false (n == m)))
   told-split n (t ∷ terms) rest [] m term item = sym (none (n == m) (told-none rest m term item))
     where
       none : (b : Bool) {w : Bool} → w ≡ false → ((b && false) || w) ≡ false
@@ -146,7 +134,7 @@ module _ (kept : ℕ → List Answer) (query : Formula ℕ) where
   gained-told above (e ∷ es) next told m term item h =
       let terms : List Term = asked_by kept query e in
       (elim (e.number == m) as (λ b. (e.number == m) ≡ b → list_any (answers_so term item) (if b then answers_to terms told else gained kept query (drop (length terms) told) es m) ≡ ((b && list_any (answers_so term item) (answers_to terms told)) || was_told (asked-in es) (drop (length terms) told) m term item)) [
-        | true ↦ (λ here. sym (ap (λ (b : Bool). list_any (answers_so term item) (answers_to terms told) || b) (apart e.number es next (drop (length terms) told) m term item h.1 (let same = eqb-true e.number m here in omega (arith, same))) ∙ or-none (list_any (answers_so term item) (answers_to terms told))))
+        | true ↦ (λ here. sym (ap (λ (b : Bool). list_any (answers_so term item) (answers_to terms told) || b) (apart e.number es next (drop (length terms) told) m term item h.1 (let same = eqb-true e.number m here in omega (arith, same))) ∙ or-false (list_any (answers_so term item) (answers_to terms told))))
         | false ↦ (λ _. gained-told e.number es next (drop (length terms) told) m term item h.1)
       ] refl)
       ∙ sym (told-split e.number terms (asked-in es) told m term item)
@@ -192,7 +180,7 @@ module _ (s : State) (valid : IsValid s) (query : Formula ℕ) (told : List (Lis
     where
       parted : (d k w t : Bool) → cond d (k || w) t ≡ (cond d k t || (d && w))
       parted true k w t = refl
-      parted false k w t = sym (or-none t)
+      parted false k w t = sym (or-false t)
 
 -- Question by question.
 

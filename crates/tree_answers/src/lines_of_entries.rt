@@ -6,10 +6,10 @@ ghost use Rattle.hac_model.specs.Run.Play.{path_line, text_line, text_lines};
 ghost use Rattle.hac_model.specs.Run.Showing.{target_line, target_lines};
 ghost use Rattle.hac_model.specs.Tree.{entry_at};
 ghost use Rattle.hac_model.specs.declared.states.Body.{Body};
-ghost use Rattle.file_tree.specs.Answers.{entry_kind};
+ghost use Rattle.hac_model.specs.Tree.{entry_kind};
 
-use file_tree::{EntryKind, Tree};
-use hac_model::{Answers, Memory, Name, Number, Text};
+use file_tree::Tree;
+use hac_model::{Answers, EntryKind, Memory, Name, Number, Text};
 use hac_names::{print_path, print_text};
 use kept_lookups::{is_document, target_of, text_of};
 use kept_state::KeptState;

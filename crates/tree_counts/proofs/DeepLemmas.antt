@@ -8,7 +8,7 @@ use Rattle.std.proofs.lemmas.List.Folds.{list_all-append}
 use Rattle.hac_model.specs.Tree.Events.{added}
 use Rattle.hac_model.specs.Tree.Limits.{are_paths_short, counts, file_bytes, has_short_path, names_below}
 use Rattle.hac_model.specs.Tree.Mounting.{documents_from, mounted, with_documents}
-use Rattle.hac_model.specs.Tree.{ancestors, entry_at, is_directory, is_directory_at, is_dirty, is_file, is_linkable, is_mount, is_mount_at, is_symlink, lineage}
+use Rattle.hac_model.specs.Tree.{ancestors, entry_at, is_directory, is_directory_at, is_dirty, is_file, is_linkable, is_mount, is_mount_at, is_queried, is_symlink, lineage}
 use Rattle.hac_model.specs.Tree.Valid.{IsLayout, NumbersRise, is_in_place}
 use Rattle.hac_model.specs.declared.counts.Counts.{Counts}
 use Rattle.hac_model.specs.declared.limits.TheConstants.{PATH_LIMIT}
@@ -18,7 +18,7 @@ use Rattle.hac_model.specs.declared.states.Body.TheVariants.{Document, Mount}
 use Rattle.hac_model.specs.declared.states.Entry.{Entry}
 use Rattle.hac_model.specs.declared.states.State.{State}
 use Rattle.hac_model.proofs.ChangeLemmas.{all-append, all-weaker, numbers-append}
-use Rattle.hac_model.proofs.CountLemmas.{is_queried, measured, one_if}
+use Rattle.hac_model.proofs.CountLemmas.{measured, one_if}
 use Rattle.hac_model.proofs.MountLayoutLemmas.{added-mount, all-tested, entry_at-documents, mount-found, numbers-documents}
 use Rattle.hac_model.proofs.PathLemmas.{ancestors-step, ancestors-taken, ancestors_by, limit, lineage-is}
 use Rattle.hac_model.proofs.TreeLemmas.{all-entries, entry_at-all, entry_at-below, entry_at-number, place-directory}

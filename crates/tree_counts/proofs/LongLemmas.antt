@@ -7,14 +7,14 @@ use Rattle.std.proofs.lemmas.Bool.{and_parts}
 use Rattle.std.proofs.lemmas.List.{length-map}
 use Rattle.hac_model.specs.Tree.Limits.{are_paths_short, counts, file_bytes}
 use Rattle.hac_model.specs.Tree.Mounting.{do_names_rise, fresh, is_among, is_gone, with_documents, without_such}
-use Rattle.hac_model.specs.Tree.{is_directory, is_dirty, is_document, is_file, is_linkable, is_mount, is_mount_at, is_symlink}
+use Rattle.hac_model.specs.Tree.{is_directory, is_dirty, is_document, is_file, is_linkable, is_mount, is_mount_at, is_queried, is_symlink}
 use Rattle.hac_model.specs.Tree.Valid.{IsLayout}
 use Rattle.hac_model.specs.declared.states.Body.{Body}
 use Rattle.hac_model.specs.declared.states.Body.TheVariants.{Document}
 use Rattle.hac_model.specs.declared.states.Entry.{Entry}
 use Rattle.hac_model.specs.declared.states.State.{State}
 use Rattle.hac_model.proofs.ChangeLemmas.{all-filter, entry_at-filter, numbers-filter}
-use Rattle.hac_model.proofs.CountLemmas.{is_queried, measured, one_if}
+use Rattle.hac_model.proofs.CountLemmas.{measured, one_if}
 use Rattle.hac_model.proofs.FittingLemmas.{all-passed}
 use Rattle.hac_model.proofs.LimitLemmas.{limits-within}
 use Rattle.tree_counts.proofs.DeepLemmas.{counts-documents, parents-low}

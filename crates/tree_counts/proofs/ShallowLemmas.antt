@@ -18,6 +18,7 @@ use Rattle.hac_model.proofs.MoveLemmas.{all_pass, paths-moved-inside, some-found
 use Rattle.hac_model.proofs.PathLemmas.{Rises, extends-rises, path_of-deeper, path_of-room, rises-extends}
 use Rattle.hac_model.proofs.TreeLemmas.{Lives, all-entries, directory-lives, entry_at-all, entry_at-number}
 use Rattle.tree_counts.specs.Depths.{GoesTo, is_shallow}
+use Rattle.hac_model.proofs.BoolLemmas.{agree, or-true}
 
 -- a test of all is one of all in order
 all-put : (p : Entry → Bool) (new : Entry) (es : List Entry) → list_all p (put_in_order new es) ≡ (p new && list_all p es)
@@ -159,10 +160,6 @@ module _ (s : State) (h : IsLayout s) where
 
     rises-inside : (steps m : ℕ) → Rises s.entries (suc steps) m n → is_inside s m n ≡ true
     rises-inside steps m up = ap (λ (b : Bool). m == n || b) (rises-extends s steps m n h (inr entry_is) up) ∙ or-true (m == n)
-      where
-        or-true : (b : Bool) → (b || true) ≡ true
-        or-true true = refl
-        or-true false = refl
 
     -- where it goes no deeper all stays short
     pub no_deeper : (new : ℕ) → new ≤ length (path_of s n) → list_all (is_short new) s.entries ≡ true
@@ -214,15 +211,10 @@ module _ (s : State) (h : IsLayout s) where
           | false ↦ (λ outside. refl)
         ] refl
 
-    same_truth : (a b : Bool) → (a ≡ true → b ≡ true) → (b ≡ true → a ≡ true) → a ≡ b
-    same_truth true b there back = sym (there refl)
-    same_truth false true there back = back refl
-    same_truth false false there back = refl
-
     -- all paths stay short just there
     pub deeper-told : (name : List ℕ) (new : ℕ) → new ≡ length (path_of s dir) + 1 → (nat_le new PATH_LIMIT && is_shallow (PATH_LIMIT - new) s n) ≡ are_paths_short (changed_at s n (reseated dir name)).entries
     deeper-told name new is =
-        same_truth (nat_le new PATH_LIMIT && is_shallow (PATH_LIMIT - new) s n) (list_all (is_short new) s.entries) (shallow new) (deeper new)
+        agree (nat_le new PATH_LIMIT && is_shallow (PATH_LIMIT - new) s n) (list_all (is_short new) s.entries) (shallow new) (deeper new)
         ∙ ap (λ (k : ℕ). list_all (is_short k) s.entries) is
         ∙ sym (moved-short name)
 

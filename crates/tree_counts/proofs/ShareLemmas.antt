@@ -9,8 +9,9 @@ use Rattle.hac_model.specs.declared.states.Body.{Body}
 use Rattle.hac_model.specs.declared.states.Body.TheVariants as body
 use Rattle.hac_model.specs.declared.states.Entry.{Entry}
 use Rattle.entry_counts.specs.Counting.{share_of}
-use Rattle.file_tree.specs.Answers.{entry_kind, entry_kind_at, is_dirty_at}
-use Rattle.file_tree.specs.declared.tree.EntryKind.TheVariants.{File, Dir, Semantic}
+use Rattle.file_tree.specs.Answers.{is_dirty_at}
+use Rattle.hac_model.specs.Tree.{entry_kind, entry_kind_at}
+use Rattle.hac_model.specs.declared.states.EntryKind.TheVariants.{File, Dir, Semantic}
 
 module _ (es : List Entry) (n : ℕ) (e : Entry) (found : entry_at es n ≡ Some e) where
   -- what is looked up of the number is told by the entry
@@ -28,11 +29,7 @@ file-kind es n = in_entry (entry_at es n)
   where
     in_body : (b : Body) → entry_kind b ≡ File → is_file b ≡ true
     in_body (body.File text dirty shown) is = refl
-    in_body body.Dir is = absurd cc
-    in_body (body.Symlink target) is = absurd cc
-    in_body (body.Semantic query permanent prohibited) is = absurd cc
-    in_body (body.Mount space answers) is = absurd cc
-    in_body body.Document is = absurd cc
+    in_body other is = absurd cc
 
     in_entry : (o : Option Entry) → option_map_or entry_kind (option_map (λ (e : Entry). e.body) o) Dir ≡ File → option_map_or is_file (option_map (λ (e : Entry). e.body) o) false ≡ true
     in_entry None is = absurd cc
@@ -50,8 +47,4 @@ kind-share a b same none = absurd cc
 
 pub semantic-share : (b : Body) (share : Counts) → entry_kind b ≡ Semantic → ((query : Formula ℕ) (permanent prohibited : List ℕ) → share ≡ share_of (body.Semantic query permanent prohibited)) → share ≡ share_of b
 semantic-share (body.Semantic query permanent prohibited) share is each = each query permanent prohibited
-semantic-share (body.File text dirty shown) share is each = absurd cc
-semantic-share body.Dir share is each = absurd cc
-semantic-share (body.Symlink target) share is each = absurd cc
-semantic-share (body.Mount space answers) share is each = absurd cc
-semantic-share body.Document share is each = absurd cc
+semantic-share other share is each = absurd cc

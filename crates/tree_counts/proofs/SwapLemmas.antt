@@ -4,7 +4,7 @@ use Rattle.std.specs.Prelude.{◌==◌, ◌&&◌, ◌||◌, not, filter, is_none
 use Rattle.std.specs.List.{list_all, list_any}
 use Rattle.std.specs.Str.{bytes_eq}
 use Rattle.std.specs.Cmp.Lexicographic.{nat_list_eq_equiv}
-use Rattle.std.proofs.lemmas.Bool.{and_parts, eqb-true}
+use Rattle.std.proofs.lemmas.Bool.{and_parts, eqb-true, not-true}
 use Rattle.std.proofs.lemmas.Slice.Eq.{bytes_eq-Decides}
 use Rattle.hac_model.specs.Tree.Listing.{is_before}
 use Rattle.hac_model.specs.Tree.Mounting.{do_names_rise, is_among, is_gone}
@@ -14,6 +14,7 @@ use Rattle.std.specs.List.{AllByRecursion}
 use Rattle.hac_model.specs.declared.states.Entry.{Entry}
 use Rattle.tree_nodes.specs.Documents.{unknown}
 use Rattle.hac_model.proofs.NameOrderLemmas.{before-differs}
+use Rattle.hac_model.proofs.BoolLemmas.{and-false}
 
 -- each is there once
 abbrev pub AreApart : List (List ℕ) → Type 0
@@ -121,13 +122,9 @@ module _ (mount : ℕ) where
   names-apart (e ∷ es) differ = elim (e.parent == mount) as (λ b. (e.parent == mount) ≡ b → AreApart (map (λ (e : Entry). e.name) (cond b (e ∷ filter (λ (e : Entry). e.parent == mount) es) (filter (λ (e : Entry). e.parent == mount) es)))) [
     | true ↦ (λ here.
         let none : child es mount e.name ≡ None = subst (λ (d : ℕ). child es d e.name ≡ None) (eqb-true e.parent mount here) differ.0 in
-        (by_test (is_among (names_in es) e.name) (sym (child-among es e.name) ∙ ap (λ (o : Option ℕ). is_none o) none), names-apart es differ.1))
+        (not-true (is_among (names_in es) e.name) (sym (child-among es e.name) ∙ ap (λ (o : Option ℕ). is_none o) none), names-apart es differ.1))
     | false ↦ (λ other. names-apart es differ.1)
   ] refl
-    where
-      by_test : (b : Bool) → not b ≡ true → b ≡ false
-      by_test false h = refl
-      by_test true h = absurd cc
 
   -- the documents that go
   gone-passing : (xs : List (List ℕ)) (es : List Entry) → AllByRecursion (λ (e : Entry). (e.parent == mount) ≡ true → is_document e.body ≡ true) es → length (filter (is_gone mount xs) es) ≡ passing (λ x. not (is_among xs x)) (names_in es)
@@ -139,12 +136,8 @@ module _ (mount : ℕ) where
           | true ↦ omega (arith, gone-passing xs es all.1)
           | false ↦ gone-passing xs es all.1
         ]))
-    | false ↦ (λ document. ap (λ (b : Bool). length (cond b (e ∷ filter (is_gone mount xs) es) (filter (is_gone mount xs) es))) (and-none (is_document e.body)) ∙ gone-passing xs es all.1)
+    | false ↦ (λ document. ap (λ (b : Bool). length (cond b (e ∷ filter (is_gone mount xs) es) (filter (is_gone mount xs) es))) (and-false (is_document e.body)) ∙ gone-passing xs es all.1)
   ] all.0
-    where
-      and-none : (b : Bool) → (b && false) ≡ false
-      and-none true = refl
-      and-none false = refl
 
   -- what goes and what is there then are what was there and what comes
   pub gone-and-new : (xs : List (List ℕ)) (es : List Entry) → NamesDiffer es → do_names_rise xs ≡ true → AllByRecursion (λ (e : Entry). (e.parent == mount) ≡ true → is_document e.body ≡ true) es →

@@ -8,16 +8,16 @@ use Rattle.std.proofs.lemmas.List.Sums.{sum_by-append}
 use Rattle.hac_model.specs.Tree.Limits.{are_paths_short, counts, file_bytes, has_short_path, long_paths, names_below}
 use Rattle.hac_model.specs.Tree.Listing.{in_order, is_before, put_in_order}
 use Rattle.hac_model.specs.Tree.Mounting.{documents_from, is_of_mount, without_such}
-use Rattle.hac_model.specs.Tree.{ancestors, entry_at, is_directory, is_directory_at, is_dirty, is_document, is_file, is_holder_at, is_linkable, is_mount, is_mount_at, is_symlink, lineage, path_of}
+use Rattle.hac_model.specs.Tree.{ancestors, entry_at, is_directory, is_directory_at, is_dirty, is_document, is_file, is_holder_at, is_linkable, is_mount, is_mount_at, is_queried, is_symlink, lineage, path_of}
 use Rattle.hac_model.specs.Tree.Valid.{IsLayout, NumbersRise, is_in_place}
 use Rattle.hac_model.specs.declared.limits.TheConstants.{PATH_LIMIT}
 use Rattle.hac_model.specs.declared.states.Answer.{Answer}
 use Rattle.hac_model.specs.declared.states.Body.{Body}
-use Rattle.hac_model.specs.declared.states.Body.TheVariants.{File, Dir, Symlink, Semantic, Mount, Document}
+use Rattle.hac_model.specs.declared.states.Body.TheVariants.{Mount, Document}
 use Rattle.hac_model.specs.declared.states.Entry.{Entry}
 use Rattle.hac_model.specs.declared.states.State.{State}
 use Rattle.hac_model.proofs.ChangeLemmas.{all-filter, all-weaker, entry_at-filter as found-filter, is_kept, numbers-filter}
-use Rattle.hac_model.proofs.CountLemmas.{is_queried, measured, measured-cons, measured-removed, one_if}
+use Rattle.hac_model.proofs.CountLemmas.{measured, measured-cons, measured-removed, one_if}
 use Rattle.hac_model.proofs.FittingLemmas.{all-passed}
 use Rattle.hac_model.proofs.LimitLemmas.{limits-within}
 use Rattle.hac_model.proofs.MountAskLemmas.{entry_at-filter, passing}
@@ -40,11 +40,7 @@ measured-append f xs ys = sum_by-append (λ (e : Entry). f e.body) xs ys
 
 pub mount-is : (b : Body) → is_mount b ≡ true → (space : List ℕ) × (answers : List Answer) × (b ≡ Mount space answers)
 mount-is (Mount space answers) is = (space, answers, refl)
-mount-is (File text dirty shown) is = absurd cc
-mount-is Dir is = absurd cc
-mount-is (Symlink target) is = absurd cc
-mount-is (Semantic query permanent prohibited) is = absurd cc
-mount-is Document is = absurd cc
+mount-is other is = absurd cc
 
 -- documents count for nothing, or each for one
 pub documents-none : (f : Body → ℕ) (es : List Entry) → f Document ≡ 0 → AllByRecursion (λ (e : Entry). is_document e.body ≡ true) es → measured f es ≡ 0

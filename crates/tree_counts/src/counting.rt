@@ -6,7 +6,7 @@ ghost use Rattle.hac_model.specs.Tree.Limits.{counts, long_paths};
 ghost use Rattle.hac_model.specs.Tree.{entry_at, is_directory_at, is_file_at};
 ghost use Rattle.hac_model.specs.Tree.Valid.{IsLayout};
 ghost use Rattle.hac_model.specs.declared.states.Body.{Body};
-ghost use Rattle.hac_model.proofs.ValidLemmas.{KeepsPlaces};
+ghost use Rattle.hac_model.proofs.KindLemmas.{KeepsRole};
 ghost use Rattle.entry_counts.specs.Counting.{AreSmall, IsShare, share_of};
 ghost use Rattle.tree_counts.specs.Depths.{GoesTo};
 ghost use Rattle.tree_counts.specs.Seated.{is_seated};
@@ -17,8 +17,8 @@ use entry_counts::{
     as_new, kept_bytes, minus, of_directory, of_document, of_file, of_mount, of_semantic,
     of_symlink, plus, replaced, with_long_paths,
 };
-use file_tree::{EntryKind, Tree};
-use hac_model::{Counts, Event, Number, Text};
+use file_tree::Tree;
+use hac_model::{Counts, EntryKind, Event, Number, Text};
 
 /// How much the state would hold after an event. What it refers to is in the tree; it may exceed
 /// limits.
@@ -90,7 +90,7 @@ fn with_step(tree: &Tree) -> Counts
 fn with_share(tree: &Tree, entry: Number, new: Counts) -> Counts
     requires there { IsSome (entry_at tree.now.state.entries entry) }
     requires small { AreSmall new }
-    ensures { (edit : Body → Body) → KeepsPlaces edit →
+    ensures { (edit : Body → Body) → KeepsRole edit →
         IsShare new edit tree.now.state entry →
         result ≡ counts (changed_at tree.now.state entry (edited edit)) }
 {

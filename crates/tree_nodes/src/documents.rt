@@ -11,7 +11,7 @@ use crate::nodes::{self, Content, Nodes, name_at};
 use crate::searching::named;
 use hac_model::{Memory, Name, Number, Seq};
 use std::alloc::Global;
-use tiered_list::Items;
+use tiered_list::{Items, TieredList};
 
 /// Puts nodes that are no entries under numbers that have none.
 pub fn prepare_nodes(alloc: Global, nodes: &mut Nodes, first: u64, end: u64) -> Result<(), Memory>
@@ -19,6 +19,7 @@ pub fn prepare_nodes(alloc: Global, nodes: &mut Nodes, first: u64, end: u64) -> 
     requires bare { (q : ℕ) → first ≤ q → kids_of nodes.old q ≡ [] }
     ensures there { OnOk result ((q : ℕ) → first ≤ q → q < end → IsTrue (has_node nodes.new q)) }
     ensures others { (q : ℕ) → q < first → has_node nodes.new q ≡ has_node nodes.old q }
+    ensures few { (q : ℕ) → end ≤ q → has_node nodes.new q ≡ has_node nodes.old q }
     ensures entries { (q : ℕ) → entry_of nodes.new q ≡ entry_of nodes.old q }
     ensures names { (q : ℕ) → q < first → name_of nodes.new q ≡ name_of nodes.old q }
     ensures kids { (q : ℕ) → kids_of nodes.new q ≡ kids_of nodes.old q }
@@ -29,8 +30,35 @@ pub fn prepare_nodes(alloc: Global, nodes: &mut Nodes, first: u64, end: u64) -> 
     Ok(())
 }
 
+/// Puts nodes that are no entries under the number of a mount and under those of so many documents,
+/// which follow, and lists these.
+pub fn prepare_documents(
+    alloc: Global,
+    nodes: &mut Nodes,
+    list: &mut TieredList,
+    mount: Number,
+    count: u64,
+) -> Result<(), Memory>
+    requires free { (q : ℕ) → mount ≤ q → entry_of nodes.old q ≡ None }
+    requires bare { (q : ℕ) → mount ≤ q → kids_of nodes.old q ≡ [] }
+    requires small { mount + 1 + count < 2 ^ 64 }
+    ensures list { OnOk result (list.new.items ≡ numbers_up (mount + 1) count) }
+    ensures there { OnOk result
+        ((q : ℕ) → mount ≤ q → q < mount + 1 + count → IsTrue (has_node nodes.new q)) }
+    ensures others { (q : ℕ) → q < mount → has_node nodes.new q ≡ has_node nodes.old q }
+    ensures few { (q : ℕ) → mount + 1 + count ≤ q → has_node nodes.new q ≡ has_node nodes.old q }
+    ensures entries { (q : ℕ) → entry_of nodes.new q ≡ entry_of nodes.old q }
+    ensures names { (q : ℕ) → q < mount → name_of nodes.new q ≡ name_of nodes.old q }
+    ensures kids { (q : ℕ) → kids_of nodes.new q ≡ kids_of nodes.old q }
+{
+    let first = mount.get() + 1;
+    prepare_nodes(alloc, nodes, mount.get(), first + count)?;
+    *list = TieredList::from_vec(alloc, numbers_up(alloc, first, count)?);
+    Ok(())
+}
+
 /// So many numbers from one on.
-pub fn numbers_up(alloc: Global, first: u64, count: u64) -> Result<Vec<Number>, Memory>
+fn numbers_up(alloc: Global, first: u64, count: u64) -> Result<Vec<Number>, Memory>
     requires { first + count < 2 ^ 64 }
     ensures { IfOk result (λ numbers. numbers.items ≡ numbers_up first count) }
 {

@@ -194,7 +194,7 @@ impl Content {
 }
 
 /// The node of a number.
-pub fn node_at(nodes: &Nodes, number: Number) -> Option<&Node>
+pub(crate) fn node_at(nodes: &Nodes, number: Number) -> Option<&Node>
     ensures { option_copied result ≡ get nat_eq nodes.now number }
 {
     nodes.get(&number.get())
@@ -223,7 +223,7 @@ pub fn placed_numbers(alloc: Global, nodes: &Nodes) -> Result<Vec<Number>, Memor
 }
 
 /// The name of a node.
-pub fn name_at(nodes: &Nodes, number: Number) -> &[u8]
+pub(crate) fn name_at(nodes: &Nodes, number: Number) -> &[u8]
     ensures { result.now ≡ name_of nodes.now number }
 {
     match node_at(nodes, number) {
@@ -328,7 +328,7 @@ pub fn reserve_child(nodes: &mut Nodes, dir: Number) -> Result<(), Memory>
 }
 
 /// Inserts a number into the list of a directory's entries, which has a place for one more.
-pub fn insert_child(nodes: &mut Nodes, dir: Number, place: usize, number: Number)
+pub(crate) fn insert_child(nodes: &mut Nodes, dir: Number, place: usize, number: Number)
     requires spare { 0 < spare_of nodes.old dir }
     requires place { place ≤ length (kids_of nodes.old dir) }
     ensures { HasList dir (insert (kids_of nodes.old dir) place number) nodes.old nodes.new }

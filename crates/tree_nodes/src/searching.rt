@@ -9,7 +9,7 @@ use sorted_lists::is_before;
 use tiered_list::Items;
 
 /// How many of the numbers have names before this one.
-pub fn rank(nodes: &Nodes, numbers: &Items, name: &[u8]) -> usize
+pub(crate) fn rank(nodes: &Nodes, numbers: &Items, name: &[u8]) -> usize
     ensures within { result ≤ length numbers.now }
     ensures rank { NamesRise (name_of nodes.now) numbers.now →
         result ≡ rank_in (name_of nodes.now) name.now numbers.now }

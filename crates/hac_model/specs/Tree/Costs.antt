@@ -11,7 +11,7 @@ use Rattle.hac_model.specs.Tree.Events.{apply, apply_all}
 use Rattle.hac_model.specs.Tree.Links.{column, items, links, provide, query_at}
 use Rattle.hac_model.specs.Tree.Touched.{changed, tied, touched}
 use Rattle.hac_model.specs.declared.events.Event.{Event}
-use Rattle.hac_model.specs.declared.events.Event.TheVariants.{Mkdir, NewFile, Rewrite, Smkdir, Step}
+use Rattle.hac_model.specs.declared.events.Event.TheVariants.{Mkdir, NewFile, Rewrite, Ln, Smkdir, Rm, Step}
 use Rattle.hac_model.specs.declared.states.State.{State}
 use Rattle.hac_model.specs.declared.terms.Term.TheVariants.{Word}
 use Rattle.hac_model.specs.declared.versions.Version.TheVariants.{Two}
@@ -63,9 +63,12 @@ two_matches = apply_all (root_alone Two) (
     ∷ Smkdir 0 (codes "fp") (query.Term (Word (codes "fingerprint"))) [] ∷ Step ∷ Step ∷ [])
 
 -- a file that gets another text costs nothing, and two questions at most once it is indexed. A new directory costs five at
--- most: its term is asked of two items, and one of them comes to it, so that three may be asked of that one
+-- most: its term is asked of two items, and one of them comes to it, so that three may be asked of that one. To remove a file
+-- costs two at most, and a symbolic link to it nothing
 abbrev pub FirstCosts : Type 0
 FirstCosts =
     (cost two_matches (Rewrite 2 (codes "other")) ≡ 0)
     × (cost (apply two_matches (Rewrite 2 (codes "other"))) Step ≡ 2)
     × (cost two_matches (Smkdir 0 (codes "k") (query.Term (Word (codes "glimpse"))) []) ≡ 5)
+    × (cost two_matches (Rm 2) ≡ 2)
+    × (cost (apply two_matches (Ln 0 (codes "l") (codes "/docs/a"))) (Rm 5) ≡ 0)

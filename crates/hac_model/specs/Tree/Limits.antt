@@ -1,8 +1,8 @@
 -- How much a state holds, and which limit it exceeds.
-use Rattle.std.specs.Prelude.{ℕ, Bool, ◌+◌, ◌&&◌, if◌then◌else◌, nat_lt, nat_le, max, List, [], ◌∷◌, ◌++◌, length, sum_by, count_by, Option, Some, None, is_some}
+use Rattle.std.specs.Prelude.{ℕ, Bool, ◌+◌, ◌&&◌, if◌then◌else◌, nat_lt, nat_le, max, List, [], ◌∷◌, ◌++◌, length, sum_by, count_by, Option, Some, None}
 use Rattle.std.specs.List.{list_all}
 use Rattle.std.specs.Option.{option_map_or}
-use Rattle.hac_model.specs.Tree.{answers_in, is_directory, is_dirty, is_file, is_linkable, is_mount, is_plain, is_symlink, lineage, query_in}
+use Rattle.hac_model.specs.Tree.{answers_in, is_directory, is_dirty, is_file, is_linkable, is_mount, is_plain, is_queried, is_symlink, lineage}
 use Rattle.hac_model.specs.Versions.{dirs_limit, mounts_limit, numbers_limit, symlinks_limit}
 use Rattle.hac_model.specs.declared.counts.Counts.{Counts}
 use Rattle.hac_model.specs.declared.limits.Limit.{Limit}
@@ -33,7 +33,7 @@ abbrev pub directory_count : List Entry → ℕ
 directory_count entries = count_by (λ entry. is_directory entry.body) entries + 1
 
 abbrev pub semantic_count : List Entry → ℕ
-semantic_count entries = count_by (λ entry. is_some (query_in entry.body)) entries
+semantic_count entries = count_by (λ entry. is_queried entry.body) entries
 
 abbrev pub mount_count : List Entry → ℕ
 mount_count entries = count_by (λ entry. is_mount entry.body) entries

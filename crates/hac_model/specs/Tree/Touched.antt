@@ -13,7 +13,7 @@ use Rattle.hac_model.specs.declared.states.State.{State}
 -- the event touches the item: it makes it, moves it, marks it, indexes it or removes it
 abbrev pub touches : State → Event → ℕ → Bool
 touches s (NewFile dir name text) item = item == s.next
-touches s (Rm entry) item = item == entry
+touches s (Rm entry) item = item == entry && is_item s item
 touches s (Mv entry dir name) item = is_item s item && is_inside s item entry
 touches s (Mark mark) item = item == mark.item && is_item s item
 touches s Step item = option_map_or (λ file. item == file) (next_dirty s.entries) false

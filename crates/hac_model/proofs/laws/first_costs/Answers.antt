@@ -6,4 +6,4 @@ use Rattle.hac_model.proofs.laws.first_costs.Goals as goal
 
 pub returns : goal.returns
 unfolding has_term is_word_byte lineage links path_of words
-returns c = (refl, refl, refl)
+returns c = (refl, refl, refl, refl, refl)

@@ -10,10 +10,10 @@ use Rattle.hac_model.specs.Query.QueryReading.{after_run, kind_of, read_on, read
 use Rattle.hac_model.specs.Script.{script}
 use Rattle.hac_model.specs.Script.Texts.{escaped_byte, text_of}
 use Rattle.hac_model.specs.Tree.Looks.{look, destination, next_path}
-use Rattle.hac_model.specs.Tree.{is_path_short, lineage, path_of}
+use Rattle.hac_model.specs.Tree.{lineage, path_of}
 use Rattle.hac_model.specs.Query.Words.{has_term, is_word_byte, words}
 use Rattle.hac_model.proofs.laws.first_links.Goals as goal
 
 pub returns : goal.returns
-unfolding ln_of after_run alone digits escaped_byte event_text first_passed has_term is_path_short is_word_byte kind_of lineage links look destination next_path maybe_path of_two_paths one_path passed_limit path_and_query path_of quoted read_on read_query script text_of word_of words write_of kind
+unfolding ln_of after_run alone digits escaped_byte event_text first_passed has_term is_word_byte kind_of lineage links look destination next_path maybe_path of_two_paths one_path passed_limit path_and_query path_of quoted read_on read_query script text_of word_of words write_of kind
 returns c = refl

@@ -11,26 +11,26 @@ use Rattle.hac_model.specs.Query.QueryReading.{after_run, kind_of, read_on, read
 use Rattle.hac_model.specs.Script.{script}
 use Rattle.hac_model.specs.Script.Texts.{escaped_byte, text_of}
 use Rattle.hac_model.specs.Tree.Looks.{look, destination, next_path}
-use Rattle.hac_model.specs.Tree.{is_path_short, lineage, path_of}
+use Rattle.hac_model.specs.Tree.{lineage, path_of}
 use Rattle.hac_model.specs.Query.Words.{has_term, is_word_byte, words}
 use Rattle.hac_model.proofs.laws.stores_end.Goals as goal
 
 pub returns-clause-full : goal.returns-clause-full
-unfolding after_run alone digits escaped_byte event_text first_passed has_term is_path_short is_word_byte kind_of lineage links look destination next_path maybe_path of_two_paths one_path passed_limit path_and_query path_of quoted read_on read_query script text_of word_of words write_of kind snapshot_text snapshot_of
+unfolding after_run alone digits escaped_byte event_text first_passed has_term is_word_byte kind_of lineage links look destination next_path maybe_path of_two_paths one_path passed_limit path_and_query path_of quoted read_on read_query script text_of word_of words write_of kind snapshot_text snapshot_of
 returns-clause-full c = refl
 
 pub returns-clause-first : goal.returns-clause-first
-unfolding after_run alone digits escaped_byte event_text first_passed has_term is_path_short is_word_byte kind_of lineage links look destination next_path maybe_path of_two_paths one_path passed_limit path_and_query path_of quoted read_on read_query script text_of word_of words write_of kind
+unfolding after_run alone digits escaped_byte event_text first_passed has_term is_word_byte kind_of lineage links look destination next_path maybe_path of_two_paths one_path passed_limit path_and_query path_of quoted read_on read_query script text_of word_of words write_of kind
 returns-clause-first c = refl
 
 pub returns-clause-root : goal.returns-clause-root
-unfolding after_run alone digits escaped_byte event_text first_passed has_term is_path_short is_word_byte kind_of lineage links look destination next_path maybe_path of_two_paths one_path passed_limit path_and_query path_of quoted read_on read_query script text_of word_of words write_of kind snapshot_text snapshot_of
+unfolding after_run alone digits escaped_byte event_text first_passed has_term is_word_byte kind_of lineage links look destination next_path maybe_path of_two_paths one_path passed_limit path_and_query path_of quoted read_on read_query script text_of word_of words write_of kind snapshot_text snapshot_of
 returns-clause-root c = (refl, refl)
 
 pub returns-clause-areas : goal.returns-clause-areas
-unfolding after_run alone digits escaped_byte event_text first_passed has_term is_path_short is_word_byte kind_of lineage links look destination next_path maybe_path of_two_paths one_path passed_limit path_and_query path_of quoted read_on read_query script text_of word_of words write_of kind snapshot_text snapshot_of
+unfolding after_run alone digits escaped_byte event_text first_passed has_term is_word_byte kind_of lineage links look destination next_path maybe_path of_two_paths one_path passed_limit path_and_query path_of quoted read_on read_query script text_of word_of words write_of kind snapshot_text snapshot_of
 returns-clause-areas c = (refl, refl, refl)
 
 pub returns-clause-numbers : goal.returns-clause-numbers
-unfolding after_run alone digits escaped_byte event_text first_passed has_term is_path_short is_word_byte kind_of lineage links look destination next_path maybe_path of_two_paths one_path passed_limit path_and_query path_of quoted read_on read_query script text_of word_of words write_of kind snapshot_text snapshot_of
+unfolding after_run alone digits escaped_byte event_text first_passed has_term is_word_byte kind_of lineage links look destination next_path maybe_path of_two_paths one_path passed_limit path_and_query path_of quoted read_on read_query script text_of word_of words write_of kind snapshot_text snapshot_of
 returns-clause-numbers c = (refl, refl, refl)

@@ -1,4 +1,4 @@
-use Rattle.std.proofs.Common.{◌≡◌, ℕ, ◌+◌, ◌≤◌, List, subst, sym, inr, ◌∙◌}
+use Rattle.std.proofs.Common.{◌≡◌, ℕ, ◌+◌, ◌≤◌, List, subst, sym, inr, true≢false, ◌∙◌}
 use Rattle.std.specs.Prelude.{Err, IfOk, IsErr, IsOk, OnOk, Option}
 use Rattle.std.specs.Option.{IfSome}
 use Rattle.hac_disk.specs.Images.{IsQuiet}
@@ -49,6 +49,16 @@ returns-then-options-clause-quiet g c =
     let mid = g.D.Disk.seen c.attach.new.self in
     made-quiet (g.D.Disk.seen c.args.disk.now).contents c.args.options.now.fresh (g.D.Disk.seen c.args.disk.now) mid (g.D.Disk.seen c.create.new.disk) c.attach.ensures.quiet c.if-options.true
     (subst (λ (told : Option (List ℕ)). IfSome told (λ file. IsOk (held file) → IsQuiet mid (g.D.Disk.seen c.create.new.disk))) c.attach.ensures.quiet.same c.create.ensures.quiet)
+
+pub returns-then-is_err-clause-still : goal.returns-then-is_err-clause-still
+returns-then-is_err-clause-still g c = λ _. c.attach.ensures.quiet
+
+pub returns-then-options-clause-still : goal.returns-then-options-clause-still
+returns-then-options-clause-still g c = λ kept. absurd (true≢false (sym c.if-options.true ∙ kept))
+
+pub returns-else-options-clause-still : goal.returns-else-options-clause-still
+returns-else-options-clause-still g c = λ _.
+    quiet_twice (g.D.Disk.seen c.args.disk.now) (g.D.Disk.seen c.attach.new.self) (g.D.Disk.seen c.load.new.disk) c.attach.ensures.quiet c.load.ensures.loads.quiet
 
 pub returns-then-options-clause-attached : goal.returns-then-options-clause-attached
 returns-then-options-clause-attached g c =

@@ -1,4 +1,4 @@
-use Rattle.std.proofs.Common.{subst, map, string_bytes}
+use Rattle.std.proofs.Common.{refl, subst, map, string_bytes}
 use Rattle.std.specs.Prelude.{⊤}
 use Rattle.hac_model.specs.Script.CommandLine.{options}
 use Rattle.hac_top.specs.Ends.{IsStoreStatus}
@@ -8,20 +8,16 @@ use Rattle.command_line.specs.Words.{asked_of, spaces_asked}
 use Rattle.command_line.proofs.WordNames.{asked-differ}
 use Rattle.hac_top.proofs.AttachLemmas.{not-bad}
 use Rattle.hac_top.proofs.MakingLemmas.{made-given, made-unattached, memory-made}
-use Rattle.hac_top.proofs.UnattachedLemmas.{is-unattached, memory-attached, memory-quiet, memory-ran, memory-spaces, own-good, own-spaces, ran-given, ran-unattached, stopped-later, stopped-spaces, told-good, unattached-disk, unattached-ends, unattached-file, unattached-names, unattached-quiet, unattached-usage}
+use Rattle.hac_top.proofs.UnattachedLemmas.{is-unattached, memory-attached, memory-quiet, memory-ran, memory-spaces, memory-takes, own-spaces, ran-given, ran-unattached, stopped-later, stopped-spaces, unattached-disk, unattached-ends, unattached-file, unattached-names, unattached-quiet, unattached-takes, unattached-usage}
 use Rattle.hac_top.proofs.UnopenedLemmas.{unopened-early, unopened-still}
 use Rattle.hac_top.proofs.running.run.Goals as goal
 
 pub attach_spaces-requires-clause-differ : goal.attach_spaces-requires-clause-differ
 attach_spaces-requires-clause-differ g c = rw c.deref.ensures.value (asked-differ (map string_bytes c.args.words.now) (asked_of c.in-Ok.options) c.in-Ok.ensures.read)
 
--- the words are refused
-pub returns-in-Err-Usage-clause-bad_space : goal.returns-in-Err-Usage-clause-bad_space
-returns-in-Err-Usage-clause-bad_space g c = λ bad. absurd (told-good c.write_usage.result c.write_usage.ensures.status bad)
-
 -- memory ran out before any space was attached
 pub returns-in-Err-Memory-clause-spaces : goal.returns-in-Err-Memory-clause-spaces
-returns-in-Err-Memory-clause-spaces g c = memory-spaces (options (map string_bytes c.args.words.now)) (g.P.Spaces.seen c.args.spaces.now)
+returns-in-Err-Memory-clause-spaces g c = memory-spaces (options (map string_bytes c.args.words.now)) (g.P.Spaces.seen c.args.spaces.now) _ (refl, refl, refl, refl)
 
 pub returns-in-Err-Memory-clause-ran : goal.returns-in-Err-Memory-clause-ran
 returns-in-Err-Memory-clause-ran g c =
@@ -50,10 +46,7 @@ returns-in-Ok-attach_spaces-clause-spaces g c =
     let new = seen c.run_store.new.spaces in
     let files = spaces_asked c.in-Ok.options.spaces.items in
     let has : HasAttached files old mid = rw c.deref.ensures.value at c.in-Ok-attach_spaces.ensures.ok in
-    rw c.in-Ok.ensures.read (own-spaces c.run_store.result files old mid new c.run_store.ensures.own has c.run_store.ensures.spaces)
-
-pub returns-in-Ok-attach_spaces-clause-bad_space : goal.returns-in-Ok-attach_spaces-clause-bad_space
-returns-in-Ok-attach_spaces-clause-bad_space g c = λ bad. absurd (own-good c.run_store.result c.run_store.ensures.own bad)
+    rw c.in-Ok.ensures.read (own-spaces c.run_store.result files old mid new _ c.run_store.ensures.own has c.run_store.ensures.spaces)
 
 pub returns-in-Ok-attach_spaces-clause-ran : goal.returns-in-Ok-attach_spaces-clause-ran
 returns-in-Ok-attach_spaces-clause-ran g c =
@@ -88,7 +81,7 @@ returns-clause-spaces g c =
     let new = seen c.attach_spaces.new.spaces in
     let files = spaces_asked c.in-Ok.options.spaces.items in
     let stops : StopsAttaching files old new c.in-Err.status = rw c.deref.ensures.value at c.in-Err.ensures.err in
-    rw c.in-Ok.ensures.read (stopped-spaces c.in-Err.status files old new stops)
+    rw c.in-Ok.ensures.read (stopped-spaces c.in-Err.status files old new _ (refl, refl, refl, refl) stops)
 
 pub returns-clause-ran : goal.returns-clause-ran
 returns-clause-ran g c =
@@ -130,6 +123,19 @@ pub returns-clause-disk_faults : goal.returns-clause-disk_faults
 returns-clause-disk_faults g c =
     let seen = g.P.Spaces.seen in
     unattached-disk c.in-Err.status (g.D.Disk.seen c.args.disk.now).faults (is-unattached _ (seen c.args.spaces.now) (seen c.attach_spaces.new.spaces) c.in-Err.status c.in-Err.ensures.err)
+
+-- what was taken of the source
+pub returns-in-Err-Memory-clause-takes : goal.returns-in-Err-Memory-clause-takes
+returns-in-Err-Memory-clause-takes g c = memory-takes (options (map string_bytes c.args.words.now)) (g.S.Source.seen c.args.input.now).left
+
+pub returns-in-Ok-attach_spaces-clause-takes : goal.returns-in-Ok-attach_spaces-clause-takes
+returns-in-Ok-attach_spaces-clause-takes g c = rw c.in-Ok.ensures.read c.run_store.ensures.takes
+
+pub returns-clause-takes : goal.returns-clause-takes
+returns-clause-takes g c =
+    let seen = g.P.Spaces.seen in
+    rw c.in-Ok.ensures.read
+    (λ _. unattached-takes c.in-Err.status (g.S.Source.seen c.args.input.now).left (is-unattached _ (seen c.args.spaces.now) (seen c.attach_spaces.new.spaces) c.in-Err.status c.in-Err.ensures.err))
 
 -- the same of a script that is made
 pub returns-in-Err-Memory-clause-made : goal.returns-in-Err-Memory-clause-made

@@ -12,7 +12,7 @@ returns-in-Change-clause-stores g c =
     let can = rw c.in-Change.is at c.requires.can in
     let event : Event = c.in-Change.change.event in
     let all = ap (λ (b : Bool). cond b (event ∷ []) []) can.2 in
-    rw c.in-Change.is (stores-once (g.met.D.Disk.lawful c.args.disk.now) c.command.result all c.requires.usable.place c.command.ensures.stores)
+    rw c.in-Change.is (stores-once (g.met.D.Disk.lawful c.args.disk.now) c.command.result all (omega arith) c.requires.usable.place c.command.ensures.stores)
 
 pub returns-in_ok-stand-in-Session-clause-stores : goal.returns-in_ok-stand-in-Session-clause-stores
 returns-in_ok-stand-in-Session-clause-stores g c =

@@ -56,7 +56,7 @@ loop-left-preserved g c =
     record {
       within = omega (arith, was.within);
       so_far =
-          part-stepped g.D.Disk.seen c.loop-left.disk c.steps.new.disk was.so_far c.min-batch.result (omega (arith, was.within, c.min-batch.ensures)) c.in_ok-steps.ensures.stores (c.args.count - (c.loop-left.left - c.min-batch.result))
+          part-stepped g.D.Disk.seen c.loop-left.disk c.steps.new.disk was.so_far c.min-batch.result (omega (arith, was.within, c.min-batch.ensures)) (omega (arith, c.loop-left-test.true, c.min-batch.ensures)) c.in_ok-steps.ensures.stores (c.args.count - (c.loop-left.left - c.min-batch.result))
           (omega (arith, was.within, c.min-batch.ensures));
       asks =
           batch-asks c.args.store.now.setting.state c.loop-left.store.setting (c.args.count - c.loop-left.left) c.min-batch.result (c.args.count - (c.loop-left.left - c.min-batch.result)) c.args.probes.now c.loop-left.probes c.steps.new.probes

@@ -19,4 +19,5 @@ loop-change-preserved c =
           ∙ ap (λ (all : List Change). told (news_on item all) (verdict_in c.loop-change.found item) dir) (sym left)
           ∙ c.loop-change.invariant.0 item dir),
       room-left c.loop-change.found c.put.new.found first rest (subst (HasRoom c.loop-change.found) left c.loop-change.invariant.1) c.put.ensures.sets c.put.ensures.spare,
+      λ d. c.put.ensures.sets d ∙ c.loop-change.invariant.2 d,
     )

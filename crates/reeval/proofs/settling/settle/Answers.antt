@@ -10,6 +10,7 @@ use Rattle.reeval.specs.Probes.{is_moved, terms_along, terms_asked}
 use Rattle.reeval.specs.Routes.{Covers}
 use Rattle.reeval.specs.Judging.{is_linked, judgement, verdict_of}
 use Rattle.reeval.specs.Routes.{dirs_of}
+use Rattle.reeval.specs.Settled.{AreFresh}
 use Rattle.reeval.specs.Told.{is_on, told}
 use Rattle.reeval.specs.declared.settling.Stop.{Stop}
 use Rattle.reeval.specs.declared.verdicts.Change.{Change}
@@ -17,7 +18,7 @@ use Rattle.reeval.specs.declared.verdicts.Verdict.{Verdict}
 use Rattle.hac_model.proofs.SortedLemmas.{all-index}
 use Rattle.reeval.proofs.ProbeLemmas.{even-there, leans-never, more-along, more-asked, most-asked, same-along, same-asked}
 use Rattle.reeval.proofs.NotedLemmas.{Noted, leans-same, none-noted, noted-judged}
-use Rattle.reeval.proofs.SettleLemmas.{Settled, any-there, asked-found, begins-there, leans-none, settled-all, settled-by, settled-none}
+use Rattle.reeval.proofs.SettleLemmas.{Settled, any-there, asked-found, begins-there, leans-none, settled-all, settled-by, settled-none, still-unsaid}
 use Rattle.reeval.proofs.settling.settle.Goals as goal
 use Rattle.reeval.proofs.settling.settle.Goals.{then-stop+in_ok-judge_anew+in_ok-note_move, then-stop-via-then-stop, then-stop-via-else-stop+then-leans_on, else-stop+else-leans_on}
 
@@ -38,6 +39,7 @@ loop-stop-init g c =
       ),
       omega arith,
       c.any_leans-leans.ensures,
+      λ covers. subst (AreFresh s) (sym c.new-news.ensures.items) tt,
     )
 
 pub loop-stop-preserved : goal.loop-stop-preserved
@@ -106,6 +108,8 @@ loop-stop-preserved g c =
             ),
             more-along t stop rest stops c.args.probes.now c.loop-stop.probes c.if-stop.probes w.asks-asks.result along bound,
             c.loop-stop.invariant.3,
+            λ covers. subst (AreFresh s) (sym (λ i. (w.news-is i).items))
+                (w.in_ok-judge_anew.ensures.fresh (still-unsaid s t item stops covers stop.dir (dirs_of rest) known (had covers).all (had covers).settled) (c.loop-stop.invariant.4 covers)),
           ))
       | else-stop+else-leans_on w ↦
           (let asked : c.loop-stop.probes ≡ c.if-stop.probes = sym w.probes-is in (
@@ -128,6 +132,7 @@ loop-stop-preserved g c =
             ),
             subst (λ (n : ℕ). n + terms_along t rest ≤ c.args.probes.now + terms_along t stops) asked (same-along t stop rest stops c.args.probes.now c.loop-stop.probes along),
             c.loop-stop.invariant.3,
+            λ covers. subst (AreFresh s) (sym (λ i. (w.news-is i).items)) (c.loop-stop.invariant.4 covers),
           ))
     ]
 
@@ -139,6 +144,9 @@ returns-clause-news g c = λ covers.
     let none : drop c.loop-stop.stop-index c.args.stops.now ≡ [] = drop_all c.loop-stop.stop-index c.args.stops.now c.loop-stop-test.false in
     settled-all s t c.args.item c.args.stops.now covers (told c.loop-stop.news.items (verdict_of s c.args.item)) noted.all
     (subst (λ (more : List Stop). Settled s t c.args.item c.args.stops.now covers (dirs_of more) (told c.loop-stop.news.items (verdict_of s c.args.item)) noted.all) none noted.settled)
+
+pub returns-clause-fresh : goal.returns-clause-fresh
+returns-clause-fresh g c = λ covers. c.loop-stop.invariant.4 covers
 
 pub returns-in_err-judge_anew-clause-few : goal.returns-in_err-judge_anew-clause-few
 returns-in_err-judge_anew-clause-few g c = λ covers even.

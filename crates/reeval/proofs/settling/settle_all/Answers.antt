@@ -27,7 +27,7 @@ loop-item-preserved g c =
       subst (PartlySettled s t stops items rest c.args.delta.now.items) (ap (λ (more : List Change). c.loop-item.delta.items ++ more) (sym c.as_slice.ensures.value) ∙ sym c.in_ok-extend_from_slice.ensures.items)
           (partly-more s t stops items c.item-item.result rest c.args.delta.now.items c.loop-item.delta.items c.in_ok-news.news.items
           (subst (λ (more : List ℕ). PartlySettled s t stops items more c.args.delta.now.items c.loop-item.delta.items) left c.loop-item.invariant.0)
-          c.in_ok-news.ensures.own c.in_ok-news.ensures.news),
+          c.in_ok-news.ensures.own c.in_ok-news.ensures.news c.in_ok-news.ensures.fresh),
       more-items rest items c.item-item.result (terms_along t stops) c.args.probes.now c.loop-item.probes c.settle.new.probes
           (subst (λ (more : List ℕ). c.loop-item.probes + length more * terms_along t stops ≤ c.args.probes.now + length items * terms_along t stops) left c.loop-item.invariant.1)
           c.in_ok-news.ensures.most,

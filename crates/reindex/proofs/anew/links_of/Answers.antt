@@ -5,6 +5,7 @@ use Rattle.hac_model.specs.Tree.Costs.{opening, weight}
 use Rattle.hac_model.specs.Tree.Links.{is_item}
 use Rattle.link_kinds.specs.Seen.{IsEmpty}
 use Rattle.file_tree.proofs.LiveLemmas.{through-begins, through-ends, through-goes, through-here}
+use Rattle.reeval.specs.Settled.{AreSetsAsked}
 use Rattle.reindex.specs.Anew.{AreLinksBelow}
 use Rattle.reindex.proofs.AnewLemmas.{below-all, below-none, none-passed}
 use Rattle.reindex.proofs.ProbeLemmas.{more-numbers, opened}
@@ -19,6 +20,7 @@ loop-number-init g c =
       through-begins (AreLinksBelow s found) s.entries s.next valid.layout.numbers (λ k none so_far. none-passed s found k valid none so_far)
           c.into_iter-number-iterator.result.rest.items are (below-none s found (subst IsEmpty (sym c.new-found.ensures) (λ dir. refl))),
       opened s valid c.into_iter-number-iterator.result.rest.items are c.args.probes.now,
+      subst (AreSetsAsked s) (sym c.new-found.ensures) (λ dir never. absurd cc),
     )
 
 pub loop-number-preserved : goal.loop-number-preserved
@@ -35,6 +37,7 @@ loop-number-preserved g c =
           (AreLinksBelow s old) left n rest is c.loop-number.invariant.0
           (c.in_ok-add_links.ensures.links (through-here (AreLinksBelow s old) s.entries s.next left n rest is c.loop-number.invariant.0)),
       more-numbers (is_item s) n rest left (weight s) (c.args.probes.now + opening s) c.loop-number.probes c.add_links.new.probes is c.loop-number.invariant.1 c.in_ok-add_links.ensures.probes,
+      c.in_ok-add_links.ensures.sets c.loop-number.invariant.2,
     )
 
 pub returns-clause-links : goal.returns-clause-links

@@ -13,7 +13,7 @@ pub returns-clause-news : goal.returns-clause-news
 returns-clause-news g c =
     let s = c.args.kept.now.state in
     settled-news s (g.Y.Layout.state c.args.layout.now) (unjudged_state s) c.args.stops.now c.args.item c.settle.result c.requires.layout
-    (said-none s c.requires.unlent c.args.item) c.settle.ensures.own c.settle.ensures.news c.requires.way
+    (said-none s c.requires.unlent) c.settle.ensures.own c.settle.ensures.news c.settle.ensures.fresh c.requires.way
 
 pub returns-clause-probes : goal.returns-clause-probes
 returns-clause-probes g c =

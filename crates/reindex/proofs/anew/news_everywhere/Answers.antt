@@ -19,7 +19,7 @@ pub returns-clause-news : goal.returns-clause-news
 returns-clause-news g c =
     let s = c.args.kept.now.state in
     settled-news s (indexed_through 0 s) empty c.as_slice-stops.result.now c.args.item c.settle.result (indexed-none s c.know_valid.ensures.layout)
-    (empty-said c.args.item) c.settle.ensures.own c.settle.ensures.news
+    empty-said c.settle.ensures.own c.settle.ensures.news c.settle.ensures.fresh
     (subst (λ (stops : List Stop). Covers empty s stops c.args.item) (sym c.as_slice-stops.ensures.value) (covers-blank s c.know_valid.ensures c.args.way.now c.requires c.args.item))
 
 pub returns-clause-probes : goal.returns-clause-probes

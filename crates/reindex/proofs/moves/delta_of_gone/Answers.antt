@@ -15,4 +15,4 @@ loop-item-preserved c = λ t valid gone.
     (c.in_ok-extend_from_slice.ensures.items ∙ ap (λ more. c.loop-item.delta.items ++ more) c.as_slice.ensures.value)
     c.in_ok-news.ensures.own
     (λ dir. c.in_ok-news.ensures.none dir ∙ sym (no-item t valid item dir (gone item (among-at c.args.items.now c.loop-item.item-index item c.loop-item-test.true c.item-item.is))))
-    (c.loop-item.invariant t valid gone)
+    c.in_ok-news.ensures.fresh (c.loop-item.invariant t valid gone)

@@ -16,7 +16,7 @@ loop-item-preserved g c = (
   settled-next c.args.past.now (g.Y.Layout.state c.args.layout.now) c.args.items.now c.loop-item.item-index c.item-item.result c.loop-item.delta.items c.in_ok-news.news.items _
       c.requires.once c.loop-item-test.true c.item-item.is
       (c.in_ok-extend_from_slice.ensures.items ∙ ap (λ more. c.loop-item.delta.items ++ more) c.as_slice.ensures.value)
-      c.in_ok-news.ensures.own c.in_ok-news.ensures.news c.loop-item.invariant.0,
+      c.in_ok-news.ensures.own c.in_ok-news.ensures.news c.in_ok-news.ensures.fresh c.loop-item.invariant.0,
   more-at c.args.items.now c.loop-item.item-index c.item-item.result (weight (g.Y.Layout.state c.args.layout.now)) c.args.probes.now c.loop-item.probes c.news_of_moved.new.probes
       c.loop-item-test.true c.loop-item.invariant.1 c.in_ok-news.ensures.probes,
 )

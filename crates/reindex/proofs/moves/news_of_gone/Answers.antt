@@ -22,7 +22,9 @@ loop-stop-preserved c =
     drop_more stops c.loop-stop.stop-index c.stop-item.result c.loop-stop-test.true ∙ ap (λ (stop : Stop). stop ∷ rest) (sym c.stop-item.is) in
     let h = subst (λ (more : List Stop). AreGone s c.args.item more c.loop-stop.news.items) left c.loop-stop.invariant in
     elim c.if-is_linked.branch [
-      | then-is_linked+in_ok-push w ↦ gone-linked s c.args.item c.stop-item.result rest c.loop-stop.news.items h c.if-is_linked.news.items ((λ i. (w.news-is i).items) ∙ w.in_ok-push.ensures.items)
+      | then-is_linked+in_ok-push w ↦
+          gone-linked s c.args.item c.stop-item.result rest c.loop-stop.news.items h c.verdict.result c.verdict.ensures (sym c.is_linked.ensures ∙ w.if-is_linked.true)
+          c.if-is_linked.news.items ((λ i. (w.news-is i).items) ∙ w.in_ok-push.ensures.items)
       | else-is_linked w ↦
           subst (λ (changes : List Change). AreGone s c.args.item rest changes) (sym (λ i. (w.news-is i).items))
           (gone-unlinked s c.args.item c.stop-item.result rest c.loop-stop.news.items h c.verdict.result c.verdict.ensures (sym c.is_linked.ensures ∙ w.if-is_linked.false))
@@ -30,6 +32,9 @@ loop-stop-preserved c =
 
 pub returns-clause-own : goal.returns-clause-own
 returns-clause-own c = c.loop-stop.invariant.own
+
+pub returns-clause-fresh : goal.returns-clause-fresh
+returns-clause-fresh c = c.loop-stop.invariant.fresh
 
 pub returns-clause-none : goal.returns-clause-none
 returns-clause-none c = λ dir.

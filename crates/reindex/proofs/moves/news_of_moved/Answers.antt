@@ -20,6 +20,16 @@ returns-clause-news g c =
     c.in_ok-stops.stops.items c.as_slice.result.now c.as_slice.ensures.value
     (subst (λ (u : State). c.in_ok-stops.stops.items ≡ needed (begun_at (place_tells u t c.args.item) c.as_slice.result.now)) c.past.view_is c.in_ok-stops.ensures)))
 
+pub returns-clause-fresh : goal.returns-clause-fresh
+returns-clause-fresh g c =
+    let s = c.args.past.now in
+    let t = g.Y.Layout.state c.args.layout.now in
+    c.settle.ensures.fresh
+    (subst (λ (stops : List Stop). Covers s t stops c.args.item) (sym c.as_slice-2.ensures.value)
+    (covers-place s t c.args.item c.requires.moves (subst IsValid c.past.view_is c.know_valid.ensures) c.requires.after c.args.way.now c.requires.way
+    c.in_ok-stops.stops.items c.as_slice.result.now c.as_slice.ensures.value
+    (subst (λ (u : State). c.in_ok-stops.stops.items ≡ needed (begun_at (place_tells u t c.args.item) c.as_slice.result.now)) c.past.view_is c.in_ok-stops.ensures)))
+
 pub returns-clause-probes : goal.returns-clause-probes
 returns-clause-probes g c =
     let s = c.args.past.now in

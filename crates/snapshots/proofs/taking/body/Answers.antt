@@ -1,6 +1,6 @@
 use Rattle.std.proofs.Common.{sym, ◌∙◌}
 use Rattle.hac_model.specs.Tree.{entry_at}
-use Rattle.file_tree.specs.declared.tree.EntryKind.TheVariants.{File, Dir, Symlink, Semantic, Mount, Document}
+use Rattle.hac_model.specs.declared.states.EntryKind.TheVariants.{File, Dir, Symlink, Semantic, Mount, Document}
 use Rattle.snapshots.proofs.PartLemmas.{of-kind, some-body}
 use Rattle.snapshots.proofs.taking.body.Goals as goal
 

@@ -11,10 +11,11 @@ use Rattle.hac_model.specs.Tree.{is_mount_at}
 use Rattle.hac_model.specs.declared.events.Event.TheVariants.{Setq, Smkdir, Ssync, Sumount}
 use Rattle.hac_model.specs.declared.limits.TheConstants.{DOCS_LIMIT}
 use Rattle.hac_model.proofs.MountLayoutLemmas.{documents-parts}
-use Rattle.hac_model.proofs.ValidLemmas.{asking-places, free-parts}
+use Rattle.hac_model.proofs.ValidLemmas.{free-parts}
 use Rattle.tree_counts.specs.Seated.{is_seated}
 use Rattle.tree_counts.proofs.PlacedLemmas.{after-counts, asking-share, bare-short, leaf-short, forgotten-counts, mark-counts, new-file}
 use Rattle.tree_counts.proofs.counting.counts_after.Goals as goal
+use Rattle.hac_model.proofs.KindLemmas.{role-asking}
 
 pub without-requires-clause-short : goal.without-requires-clause-short
 without-requires-clause-short c = leaf-short c.args.tree.now.state c.in-Rm.entry c.know_layout.ensures.layout (subst (λ (e : Event). IsTrue (is_seated c.args.tree.now.state e)) c.in-Rm.is c.requires)
@@ -44,7 +45,7 @@ pub returns-in-Setq : goal.returns-in-Setq
 returns-in-Setq c =
     let s = c.args.tree.now.state in
     let placed = subst (λ (e : Event). IsTrue (is_seated s e)) c.in-Setq.is c.requires in
-    c.with_share.ensures (asking c.in-Setq.query) (asking-places c.in-Setq.query) (asking-share s c.in-Setq.dir c.in-Setq.query c.of_semantic-in-Setq.result placed c.of_semantic-in-Setq.ensures.share)
+    c.with_share.ensures (asking c.in-Setq.query) (role-asking c.in-Setq.query) (asking-share s c.in-Setq.dir c.in-Setq.query c.of_semantic-in-Setq.result placed c.of_semantic-in-Setq.ensures.share)
     ∙ after-counts s (Setq c.in-Setq.dir c.in-Setq.query c.in-Setq.told)
     ∙ ap (λ (e : Event). counts (apply s e)) (sym c.in-Setq.is)
 

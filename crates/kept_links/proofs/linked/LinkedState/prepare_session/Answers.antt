@@ -10,4 +10,4 @@ pub invariant_of-self-2 : goal.invariant_of-self-2
 invariant_of-self-2 c =
     kept-session c.self.inside.kept.state c.args.session c.args.dir _ c.know_valid.ensures
     (subst (λ (seen : Seen). IsTrue (accepted seen.state (Cd c.args.session c.args.dir))) (sym c.self.view_is) c.requires)
-    c.in_ok-prepare_session.ensures.ok c.self.invariant.links c.self.invariant.way c.clear.ensures.items refl
+    c.in_ok-prepare_session.ensures.ok c.drop_plain.ensures.links c.drop_plain.ensures.sets c.self.invariant.way c.clear.ensures.items refl

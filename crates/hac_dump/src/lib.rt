@@ -1,0 +1,4 @@
+//! The dump of a tree: a script that makes the same tree again.
+#![tactic(auto)]
+
+pub mod laws;

@@ -1,4 +1,0 @@
-pub mod NewsLemmas
-pub mod PlaceLemmas
-pub mod ToldLemmas
-pub mod WordLemmas
